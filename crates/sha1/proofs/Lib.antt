@@ -1,0 +1,4 @@
+pub mod Schedule
+pub mod Blocks
+pub mod Fed
+pub mod Laws

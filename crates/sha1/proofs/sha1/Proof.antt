@@ -1,0 +1,23 @@
+use Prim.Native.Nat.{ℕ}
+use mathlib.Core.Path.{ap, _∙_}
+use mathlib.Core.List.{List, []}
+use Rattle.sha1.specs.State.{updated, finished}
+use Rattle.sha1.specs.declared.hasher.Hasher.{Hasher}
+use Rattle.sha1.proofs.Laws.{of-none, of-more, of-finished}
+use borrow.Author.Needs.{needs}
+use Rattle.sha1.proofs.sha1.Statement.{statement}
+use Rattle.sha1.proofs.sha1.Tie as tie
+
+returns : tie.Need-returns
+returns c =
+    let s : List ℕ = c .before .before .before .before .args .s .now in
+    c .finish .ensures
+    ∙ ap finished (c .before .update .ensures ∙ ap (λ (h : Hasher). updated h s) (c .before .before .new .ensures ∙ of-none) ∙ of-more [] s)
+    ∙ of-finished s
+
+pub sha1-spec : {M : Type 1} → statement M
+sha1-spec = tie.close (tie.spec
+    (λ c κs. search needs)
+    (λ c κs. search needs)
+    (λ c κs. search needs)
+    returns)

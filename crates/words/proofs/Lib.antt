@@ -1,0 +1,5 @@
+pub mod Numbers
+pub mod Ordered
+pub mod Searches
+pub mod Rows
+pub mod Parts

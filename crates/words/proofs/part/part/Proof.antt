@@ -1,0 +1,51 @@
+use native.Mathlib.Omega.{arith}
+use mathlib.Core.Path.{refl}
+use Prim.Native.Nat.{_+_, _*_, _≤_}
+use lib.ListN.{length}
+use Rattle.words.proofs.Parts.{inside, cut, uncut, span}
+use borrow.Author.Needs.{needs}
+use Rattle.words.proofs.part.part.Statement.{statement}
+use Rattle.words.proofs.part.part.Tie as tie
+
+-- the records lie in the slice
+within : (c : tie.Then1) → c .before .before .before .args .at + c .before .before .before .args .count * c .before .before .before .args .w ≤ length (c .before .before .before .args .s .now)
+within c =
+    let a = c .before .before .before .args in
+    inside (a .s) (a .at) (a .count) (a .w) (c .before .room .ensures) (c .if1 .taken)
+
+mul-e : tie.Need-mul-e
+mul-e c = omega (arith, within c)
+
+add-e : tie.Need-add-e
+add-e c = omega (arith, within c)
+
+part-result-end : tie.Need-part-result-end
+part-result-end c = within c
+
+returns : tie.Need-returns
+returns c =
+    let a = c .before .before .before .before .args in
+    cut (a .s) (a .at) (a .count) (a .w) (c .before .before .room .ensures) (c .before .if1 .taken)
+    (record { block = refl; start = omega arith; bytes = span (a .at) (a .count * a .w) (a .s .now) })
+
+returns-2 : tie.Need-returns-2
+returns-2 c =
+    let a = c .before .before .before .before .args in
+    uncut (a .s) (a .at) (a .count) (a .w) (c .before .before .room .ensures) (c .before .if1 .left)
+    (record { block = refl; start = omega arith; bytes = refl })
+
+pub part-spec : {M : Type 1} → statement M
+part-spec =
+    tie.close
+    (tie.spec
+    (λ c κs. search needs)
+    mul-e
+    add-e
+    (λ c. search needs)
+    (λ c. search needs)
+    part-result-end
+    returns
+    (λ c. search needs)
+    (λ c. search needs)
+    (λ c. search needs)
+    returns-2)

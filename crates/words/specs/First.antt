@@ -1,0 +1,14 @@
+-- Rows of a table, and the first number at which a test holds.
+use Prim.Native.Nat.{ℕ, zero, suc, _+_}
+use mathlib.Core.Bool.{Bool, true, false}
+
+infixr 10 _if_else_
+-- a row of a table: its number where its test holds, else what the rows after it say
+unfoldable pub _if_else_ : ℕ → Bool → ℕ → ℕ
+_if_else_ n true rest = n
+_if_else_ n false rest = rest
+
+-- the first of the k numbers from i at which p holds, and i + k where there is none
+unfoldable pub first : (ℕ → Bool) → ℕ → ℕ → ℕ
+first p i zero = i
+first p i (suc k) = i if p i else first p (i + 1) k
