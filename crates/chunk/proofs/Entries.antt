@@ -1,0 +1,52 @@
+-- What the tests of the index say of numbers that were read.
+use Prim.Native.Nat.{ℕ, _+_, _*_, _<_, _≤_}
+use mathlib.Core.List.{List}
+use lib.ListN.{length}
+use mathlib.Core.Bool.{Bool, true, false}
+use mathlib.Core.Path.{_≡_, sym, ap, _∙_}
+use native.Mathlib.Omega.{arith}
+use lib.Dec.{leb}
+use borrow.Author.Tests.{lt-ltb, le-ltb, le-leb, lt-leb, eq-eqb, ne-eqb}
+use Rattle.words.specs.First.{first}
+use Rattle.words.proofs.Searches.{first-begins, first-stop, first-step, first-ends}
+use Rattle.chunk.specs.Index.{chunks, idAt, offAt, isAt, seen, entryRule, bad, chunkAt, pick, chunkOf}
+use Rattle.chunk.specs.declared.Chunk.the-variants.{At, Absent}
+
+pub isAt-yes : (l : List ℕ) (x i r : ℕ) → r ≡ idAt l i → r ≡ x → isAt l x i ≡ true
+unfolding isAt
+isAt-yes l x i r p q = eq-eqb _ _ (sym p ∙ q)
+
+pub isAt-no : (l : List ℕ) (x i r : ℕ) → r ≡ idAt l i → (r ≡ x → ⊥) → isAt l x i ≡ false
+unfolding isAt
+isAt-no l x i r p q = ne-eqb _ _ (λ e. q (p ∙ e))
+
+pub seen-yes : (l : List ℕ) (i x f : ℕ) → x ≡ idAt l i → f ≡ first (isAt l x) 0 i → f < i → seen l i ≡ true
+unfolding seen
+seen-yes l i x f p q h = rw (← p, ← q) (lt-ltb f i h)
+
+pub seen-no : (l : List ℕ) (i x f : ℕ) → x ≡ idAt l i → f ≡ first (isAt l x) 0 i → i ≤ f → seen l i ≡ false
+unfolding seen
+seen-no l i x f p q h = rw (← p, ← q) (le-ltb f i h)
+
+pub bad-yes : (l : List ℕ) (i r : ℕ) → r ≡ entryRule l i → 0 < r → bad l i ≡ true
+unfolding bad
+bad-yes l i r p q = lt-ltb 0 (entryRule l i) (omega arith)
+
+pub bad-no : (l : List ℕ) (i r : ℕ) → r ≡ entryRule l i → r ≤ 0 → bad l i ≡ false
+unfolding bad
+bad-no l i r p q = le-ltb 0 (entryRule l i) (omega arith)
+
+pub ruleset searching = (first-begins, first-stop, first-step, first-ends, isAt-yes, isAt-no, seen-yes, seen-no, bad-yes, bad-no)
+
+-- a chunk that is found, and one that is not: e is where the search stopped
+module _ (l : List ℕ) (x c e : ℕ) (p : c ≡ chunks l) (q : e ≡ first (isAt l x) 0 c) where
+  stopped : first (isAt l x) 0 (chunks l) ≡ e
+  stopped = ap (first (isAt l x) 0) (sym p) ∙ sym q
+
+  pub chunk-absent : c ≤ e → Absent ≡ chunkOf l x
+  unfolding chunkOf pick
+  chunk-absent h = let g : chunks l ≤ e = omega arith in rw (stopped, le-leb (chunks l) e g)
+
+  pub chunk-at : e < c → chunkAt l e ≡ chunkOf l x
+  unfolding chunkOf pick
+  chunk-at h = let g : e < chunks l = omega arith in rw (stopped, lt-leb (chunks l) e g)
