@@ -12,7 +12,7 @@ use types::refusal::Refusal;
 ghost use mathlib.Core.Path.{_≡_};
 ghost use Prim.Native.Nat.{_+_};
 ghost use Rattle.types.specs.Refusals.{refusal};
-ghost use Rattle.chunk.specs.Index.{chunks, offAt, chunkOf, sizeOf, indexRule, indexPlace};
+ghost use Rattle.chunk.specs.Index.{chunks, offAt, chunkOf, absent, startOf, sizeOf, indexRule, indexPlace};
 
 // The bytes from `start` up to `end`, as the index says.
 pub struct Span {
@@ -37,6 +37,26 @@ pub fn find(s: &[u8], x: u32) -> Chunk
     let start = offset(s, e);
     let end = offset(s, e + 1);
     Chunk::At(Span { start, end })
+}
+
+// Whether a chunk is absent. An empty chunk is not.
+pub fn missing(c: Chunk) -> bool
+    ensures { λ r. ⌜ r ≡ absent c ⌝ }
+{
+    let Chunk::At(_) = c else {
+        return true;
+    };
+    false
+}
+
+// Where a chunk starts; 0 where it is absent.
+pub fn start(c: Chunk) -> usize
+    ensures { λ r. ⌜ r ≡ startOf c ⌝ }
+{
+    let Chunk::At(p) = c else {
+        return 0;
+    };
+    p.start
 }
 
 // How many bytes a chunk has; 0 where it is absent.

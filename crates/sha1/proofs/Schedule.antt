@@ -7,7 +7,8 @@ use native.Mathlib.Omega.{arith}
 use borrow.Author.Tests.{lt-ltb, le-ltb}
 use lib.Bits.{bitXor}
 use lib.ListN.{length, getD, take, set}
-use lib.Seq.{take-suc-set, take-all, getD-take}
+use lib.Seq.{getD-take}
+use Rattle.words.proofs.Fills.{grown}
 use Rattle.words.specs.Big.{be}
 use Rattle.words.specs.First.{_if_else_}
 use Rattle.sha1.specs.Fips.{rotl, next, schedule, round, rounds}
@@ -16,7 +17,7 @@ use Rattle.sha1.specs.Fips.{rotl, next, schedule, round, rounds}
 pub stored : (m w : List ℕ) (t v : ℕ) → t < length w → take t w ≡ schedule m t → v ≡ next m (take t w) t
     → take (t + 1) (set w t v) ≡ schedule m (t + 1)
 unfolding schedule
-stored m w t v h e n = rw (add-one, take-suc-set) (rw (n, e))
+stored m w t v h e n = grown (schedule m) w t v h e (rw (n, e))
 
 -- the next word, below 16 and from 16 on
 pub next-low : (m ws : List ℕ) (t : ℕ) → t < 16 → be 4 m (4 * t) ≡ next m ws t
@@ -39,9 +40,3 @@ next-high m w t h =
 pub turned : (w h s : List ℕ) (t : ℕ) → s ≡ rounds w h t → round t (getD w t 0) s ≡ rounds w h (t + 1)
 unfolding rounds
 turned w h s t e = rw add-one (rw e)
-
--- a list whose first t elements are right, for t its whole length
-pub whole : (g : ℕ → List ℕ) (l : List ℕ) (t n : ℕ) → n ≤ t → t ≤ n → length l ≡ n → take t l ≡ g t → l ≡ g n
-whole g l t n a b e p =
-    let q : t ≡ n = omega arith in
-    sym (take-all t l (omega arith)) ∙ p ∙ ap g q

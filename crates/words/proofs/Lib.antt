@@ -3,3 +3,4 @@ pub mod Ordered
 pub mod Searches
 pub mod Rows
 pub mod Parts
+pub mod Fills

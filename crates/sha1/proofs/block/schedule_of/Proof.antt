@@ -4,7 +4,8 @@ use native.Mathlib.Omega.{arith}
 use borrow.Author.Needs.{needs}
 use lib.ListN.{length, take, length-set}
 use Rattle.sha1.specs.Fips.{schedule, next}
-use Rattle.sha1.proofs.Schedule.{stored, next-high, whole}
+use Rattle.sha1.proofs.Schedule.{stored, next-high}
+use Rattle.words.proofs.Fills.{whole}
 use Rattle.sha1.proofs.block.schedule_of.Statement.{statement}
 use Rattle.sha1.proofs.block.schedule_of.Tie as tie
 

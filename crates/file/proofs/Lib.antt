@@ -1,0 +1,4 @@
+pub mod Fan
+pub mod Stages
+pub mod Opens
+pub mod Hex

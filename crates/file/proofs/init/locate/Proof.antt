@@ -1,0 +1,19 @@
+use Rattle.file.specs.Table.{indexOf}
+use borrow.Author.Needs.{needs}
+use Rattle.file.proofs.init.locate.Statement.{statement}
+use Rattle.file.proofs.init.locate.Tie as tie
+
+returns : tie.Need-returns
+unfolding indexOf
+returns c = simp (c .find5 .ensures, c .before .find4 .ensures, c .before .before .find3 .ensures, c .before .before .before .find2 .ensures, c .before .before .before .before .find .ensures)
+
+pub locate-spec : {M : Type 1} → statement M
+locate-spec =
+    tie.close
+    (tie.spec
+    (λ c κs. search needs)
+    (λ c κs. search needs)
+    (λ c κs. search needs)
+    (λ c κs. search needs)
+    (λ c κs. search needs)
+    returns)

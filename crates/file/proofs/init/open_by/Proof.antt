@@ -1,0 +1,65 @@
+use Prim.Native.Nat.{ℕ}
+use mathlib.Core.Path.{_≡_, sym, ap, ap₂, _∙_}
+use native.Mathlib.Omega.{arith}
+use denote.Ref.{now}
+use Rattle.types.specs.declared.refusal.Refusal.{Refusal}
+use Rattle.chunk.specs.Index.{indexRule}
+use Rattle.chunk.proofs.Sound.{indexed}
+use Rattle.file.specs.Table.{bases, chunked, openingBy}
+use Rattle.file.specs.declared.rules.Index.{Index}
+use Rattle.file.proofs.Stages.{stages, refuse-no, refuse-none, refuse-as, Headed, headed, width-wide}
+use borrow.Author.Needs.{needs}
+use Rattle.file.proofs.init.open_by.Statement.{statement}
+use Rattle.file.proofs.init.open_by.Tie as tie
+
+-- once 1 to 5 refuse nothing, and once 6 to 9 do not
+top : (c : tie.Else1) → Headed (now (c .before .before .before .args .s))
+top c = headed _ (let e = c .before .head .ensures in let h = c .if1 .left in omega arith)
+
+none : (c : tie.Else2) → indexRule (now (c .before .before .before .before .before .before .args .s)) ≡ 0
+none c =
+    let e = ap (λ (i : Refusal). i .number) (c .before .before .check .ensures) in
+    let h = c .if2 .left in
+    omega arith
+
+returns : tie.Need-returns
+unfolding openingBy
+returns c = search stages
+
+returns-2 : tie.Need-returns-2
+unfolding openingBy
+returns-2 c =
+    refuse-no _ _ _ _ _ (c .before .before .before .before .head .ensures) (c .before .before .before .if1 .left) (refuse-as _ _ _ _ (c .before .before .check .ensures) (c .if2 .taken))
+
+shared-slice-read-chunks-open : tie.Need-shared-slice-read-chunks-open
+shared-slice-read-chunks-open c = omega (arith, top (c .before .before .before .before .before .before))
+
+chunks-open-requires : tie.Need-chunks-open-requires
+chunks-open-requires c κs =
+    let l = now (c .before .before .before .before .before .before .before .before .before .args .s) in
+    let w = c .before .width-of .ensures in
+    (indexed l (none (c .before .before .before)), (c .before .before .locate .ensures, omega (arith, width-wide l), omega (arith, width-wide l)))
+
+returns-3 : tie.Need-returns-3
+unfolding openingBy
+returns-3 c =
+    let a = c .before .before .before .before .before .before .before .before .before .before .args in
+    let l = now (a .s) in
+    refuse-no _ _ _ _ _ (c .before .before .before .before .before .before .before .before .head .ensures) (c .before .before .before .before .before .before .before .if1 .left)
+    (refuse-none _ _ _ _ (sym (none (c .before .before .before .before)))
+    (c .chunks-open .ensures ∙ ap₂ (λ (w : ℕ) (x : Index). chunked (a .tried) w (bases l) l x) (c .before .before .width-of .ensures) (c .before .before .before .locate .ensures)))
+
+pub open-by-spec : {M : Type 1} → statement M
+open-by-spec =
+    tie.close
+    (tie.spec
+    (λ c κs. search needs)
+    (λ c κs. search needs)
+    returns
+    (λ c κs. search needs)
+    returns-2
+    (λ c κs. search needs)
+    (λ c κs. search needs)
+    shared-slice-read-chunks-open
+    chunks-open-requires
+    returns-3)
