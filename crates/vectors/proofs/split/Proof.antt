@@ -1,0 +1,37 @@
+use Prim.Native.Nat.{_≤_, _-_}
+use native.Mathlib.Omega.{arith}
+use borrow.Author.Needs.{needs}
+use lib.ListN.{length-take}
+use Rattle.vectors.proofs.split.Statement.{statement}
+use Rattle.vectors.proofs.split.Tie as tie
+
+abbrev Inv-loop : tie.InvT-loop
+Inv-loop p n₀ n = n ≤ 201
+
+abbrev μ-loop : tie.MeasureT-loop
+μ-loop p n₀ n = 201 - n
+
+slice-aggregate-update : tie.Need-slice-aggregate-update Inv-loop μ-loop
+slice-aggregate-update c = simp length-take (omega arith)
+
+pub split-spec : {M : Type 1} → statement M
+split-spec =
+    tie.close
+    (tie.spec
+    Inv-loop
+    μ-loop
+    (λ c. search needs)
+    (λ c κs. search needs)
+    (λ c. search needs)
+    slice-aggregate-update
+    (λ c κs. search needs)
+    (λ c. search needs)
+    (λ c. search needs)
+    (λ c. search needs)
+    (λ c κs. search needs)
+    (λ c κs. search needs)
+    (λ c κs. search needs)
+    (λ c. search needs)
+    (λ c. search needs)
+    (λ c. search needs)
+    (λ c. search needs))

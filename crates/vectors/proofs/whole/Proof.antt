@@ -1,0 +1,31 @@
+use Prim.Native.Nat.{_≤_, _-_}
+use native.Mathlib.Omega.{arith}
+use borrow.Author.Needs.{needs}
+use lib.ListN.{length-take}
+use Rattle.vectors.proofs.whole.Statement.{statement}
+use Rattle.vectors.proofs.whole.Tie as tie
+
+abbrev Inv-loop : tie.InvT-loop
+Inv-loop p n₀ n = n ≤ 201
+
+abbrev μ-loop : tie.MeasureT-loop
+μ-loop p n₀ n = 201 - n
+
+slice-aggregate-sha1 : tie.Need-slice-aggregate-sha1 Inv-loop μ-loop
+slice-aggregate-sha1 c = simp length-take (omega arith)
+
+pub whole-spec : {M : Type 1} → statement M
+whole-spec =
+    tie.close
+    (tie.spec
+    Inv-loop
+    μ-loop
+    (λ c. search needs)
+    (λ c. search needs)
+    slice-aggregate-sha1
+    (λ c κs. search needs)
+    (λ c κs. search needs)
+    (λ c. search needs)
+    (λ c. search needs)
+    (λ c. search needs)
+    (λ c. search needs))
