@@ -2,3 +2,8 @@ pub mod Fan
 pub mod Stages
 pub mod Opens
 pub mod Hex
+pub mod Fitting
+pub mod Halving
+pub mod Asks
+pub mod Looks
+pub mod Stores

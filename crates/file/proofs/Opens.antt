@@ -18,12 +18,12 @@ use Rattle.chunk.specs.declared.Chunk.{Chunk}
 use Rattle.chunk.specs.declared.Chunk.the-variants.{At, Absent}
 use Rattle.chunk.proofs.Sound.{indexed, lies}
 use Rattle.file.specs.Table.{bases, width, header, indexOf, partOf, baseRules, chunkRules, countRules, falls, peak, peakBy, last, fileOf, refuse, fanned, chunked, openingBy, opening}
-use Rattle.file.specs.Facts.{fanPart, Opened, Rises}
+use Rattle.file.specs.Facts.{Opened, Rises}
 use Rattle.file.specs.declared.File.{File}
 use Rattle.file.specs.declared.rules.Index.{Index}
 use Rattle.file.specs.declared.Opening.{Opening}
 use Rattle.file.specs.declared.Opening.the-variants.{Open, Refused}
-use Rattle.file.proofs.Stages.{Headed, headed, width-wide}
+use Rattle.file.proofs.Stages.{Headed, headed, width-wide, width-known}
 
 -- a stage before an opened file refused nothing
 pub opens : (n p : ℕ) (rest : Opening) (f : File) → refuse n p rest ≡ Open f → (n ≡ 0) × (rest ≡ Open f)
@@ -119,15 +119,18 @@ opened t l f o =
     rw (← k .is) (record {
       most = h .most;
       least = h .least;
-      wide = width-wide l .0;
-      narrow = width-wide l .1;
+      fitted = record {
+        wide = width-wide l .0;
+        narrow = width-wide l .1;
+        fan = omega (arith, s .oidf, lies l 0x4f494446 i .inside);
+        ids = omega (arith, whole _ w n (s .oidl) (c .0), lies l 0x4f49444c i .inside);
+        rows = omega (arith, whole _ (w + 16) n (s .cdat) (c .1), lies l 0x43444154 i .inside);
+        edge = lies l 0x45444745 i .inside;
+        base = omega (arith, based w (bases l) (x .base) (k .base) (s .base), lies l 0x42415345 i .inside);
+      };
+      known = width-known l;
       bases = refl;
-      fan = omega (arith, s .oidf, lies l 0x4f494446 i .inside);
       count = ap (λ (j : ℕ). be 4 (take j (drop (startOf (x .oidf)) l)) 1020) (s .oidf);
-      ids = omega (arith, whole _ w n (s .oidl) (c .0), lies l 0x4f49444c i .inside);
-      rows = omega (arith, whole _ (w + 16) n (s .cdat) (c .1), lies l 0x43444154 i .inside);
-      edge = lies l 0x45444745 i .inside;
-      base = omega (arith, based w (bases l) (x .base) (k .base) (s .base), lies l 0x42415345 i .inside);
     })
 
 pub rising : (l : List ℕ) (f : File) → opening l ≡ Open f → Rises l f

@@ -1,30 +1,22 @@
 -- What an opened file gives to whoever reads it.
 use Prim.Native.Nat.{ℕ, _+_, _*_, _≤_, _<_}
 use mathlib.Core.List.{List}
+use mathlib.Core.Bool.{true}
 use mathlib.Core.Path.{_≡_}
 use lib.ListN.{length, getD, take, drop}
 use Rattle.words.specs.Big.{be}
-use Rattle.chunk.specs.Index.{startOf, sizeOf}
+use Rattle.file.specs.Fits.{known, fanPart, Fitted}
 use Rattle.file.specs.Names.{digitOf}
 use Rattle.file.specs.declared.File.{File}
-
--- the fan's own bytes
-abbrev pub fanPart : List ℕ → File → List ℕ
-fanPart l f = take 1024 (drop (f .oidf) l)
 
 -- it holds with 20 tried or not
 pub record Opened (l : List ℕ) (f : File) : Type 0 where
   pub most : length l ≤ 1073741824
   pub least : 1100 ≤ length l
-  pub wide : 0 < f .width
-  pub narrow : f .width < 1000
+  pub fitted : Fitted l f
+  pub known : known (f .width) ≡ true
   pub bases : f .bases ≡ getD l 7 0
-  pub fan : f .oidf + 1024 ≤ length l
   pub count : f .commits ≡ be 4 (fanPart l f) 1020
-  pub ids : f .oidl + f .commits * f .width ≤ length l
-  pub rows : f .cdat + f .commits * (f .width + 16) ≤ length l
-  pub edge : startOf (f .edge) + sizeOf (f .edge) ≤ length l
-  pub base : f .base + f .bases * f .width ≤ length l
 
 -- with 20 tried, the fan rises
 pub record Rises (l : List ℕ) (f : File) : Type 0 where

@@ -1,3 +1,5 @@
 pub mod Table
-pub mod Facts
+pub mod Fits
 pub mod Names
+pub mod Facts
+pub mod Lookup
