@@ -1,10 +1,10 @@
 -- A record that fits its bytes: what it gives, and that an opened file's does.
-use Prim.Native.Nat.{ℕ, suc, _+_, _-_, _*_, _≤_, _<_}
+use Prim.Native.Nat.{ℕ, suc, _+_, _-_, _*_, _^_, _≤_, _<_}
 use mathlib.Core.List.{List}
 use mathlib.Core.Bool.{Bool, true, false, not}
 use mathlib.Core.Path.{_≡_, refl, sym, ap, _∙_}
 use native.Mathlib.Omega.{arith}
-use native.Mathlib.Nat.{mul-le-mul-right, mul-one, suc-mul}
+use native.Mathlib.Nat.{mul-le-mul-right, mul-le-mul, le-of-lt, mul-one, suc-mul}
 use lib.Dec.{ltb, leb, eqb, lit<}
 use lib.ListN.{length}
 use denote.Ref.{RefT}
@@ -38,6 +38,10 @@ fitted l f e =
     let p6 = row-fits (length l) (f .base) (f .bases) (f .width) _ (p5 .1) in
     let w : f .width ≡ 20 = eqb-true _ _ (not-false _ (p1 .0)) in
     record { wide = omega arith; narrow = omega arith; fan = p2 .0; ids = p3 .0; rows = p4 .0; edge = rw mul-one at (p5 .0); base = p6 .0 }
+
+width-is : (l : List ℕ) (f : File) → fitRule l f ≡ 0 → f .width ≡ 20
+unfolding fitRule
+width-is l f e = eqb-true _ _ (not-false _ (pass 40 _ _ (lit< tt) e .0))
 
 pub opened-fits : (l : List ℕ) (f : File) → Opened l f → fitRule l f ≡ 0
 unfolding fitRule
@@ -80,6 +84,7 @@ module _ (l : List ℕ) (f : File) (n i m : ℕ) (e : m ≡ fitRule l f) where
 -- what a question that is answered gives
 pub record Answered (l : List ℕ) (f : File) (n i : ℕ) : Type 0 where
   pub rule : askRule l f n i ≡ 0
+  pub width : f .width ≡ 20
   pub fits : Fitted l f
   pub below : i < n
 
@@ -87,7 +92,7 @@ pub answered : (l : List ℕ) (f : File) (n i r : ℕ) → r ≡ askRule l f n i
 answered l f n i r e h =
     let z : askRule l f n i ≡ 0 = omega arith in
     let k = asked l f n i z in
-    record { rule = z; fits = fitted l f (k .0); below = k .1 }
+    record { rule = z; width = width-is l f (k .0); fits = fitted l f (k .0); below = k .1 }
 
 -- the part that a question hands back, where it meets no refusal and where it meets one
 module _ (s r : RefT (List ℕ)) (m at n : ℕ) where
@@ -114,3 +119,7 @@ module _ {s p : RefT (List ℕ)} (at n r i w : ℕ) (q : PartOf s at (n * r) p) 
 -- a number that is not above 0
 pub zero-of : {m n : ℕ} → m ≡ n → m ≤ 0 → n ≡ 0
 zero-of e h = omega arith
+
+-- m records of w bytes, of which there are few
+pub small-product : (m w : ℕ) → m < 2 ^ 32 → w < 1000 → m * w < 2 ^ 63
+small-product m w h g = let z : m * w ≤ 2 ^ 32 * 1000 = mul-le-mul (le-of-lt h) (le-of-lt g) in omega arith

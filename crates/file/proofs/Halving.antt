@@ -1,11 +1,11 @@
 -- Laws of search by halving: one for each way, an induction, and what it finds. Nothing later sees how many turns it may take.
-use Prim.Native.Nat.{ℕ, zero, suc, _+_, _-_, _*_, _/_, _^_, _≤_, _<_}
+use Prim.Native.Nat.{ℕ, zero, suc, _+_, _-_, _*_, _/_, _≤_, _<_}
 use mathlib.Core.List.{List}
 use mathlib.Core.Bool.{Bool, true, false}
 use mathlib.Core.Path.{_≡_, refl, sym, ap, _∙_}
 use mathlib.Core.Logic.{⊎-elim}
 use native.Mathlib.Omega.{arith}
-use native.Mathlib.Nat.{eq-or-lt-of-le, le-refl, le-of-lt, mul-le-mul}
+use native.Mathlib.Nat.{eq-or-lt-of-le, le-refl}
 use borrow.Author.Tests.{le-leb, lt-leb}
 use Rattle.types.specs.declared.refusal.Refusal.{Refusal}
 use Rattle.types.specs.declared.file.Position.{Position}
@@ -165,7 +165,3 @@ pub lower-is : (p : List ℕ) (b : ℕ) → (b ≡ 0 → ⊥) → be 4 p (4 * (b
 unfolding lower
 lower-is p zero h = absurd (h refl)
 lower-is p (suc b) h = let e : suc b - 1 ≡ b = omega arith in rw e
-
--- m records of w bytes, of which there are few
-pub small-product : (m w : ℕ) → m < 2 ^ 32 → w < 1000 → m * w < 2 ^ 63
-small-product m w h g = let z : m * w ≤ 2 ^ 32 * 1000 = mul-le-mul (le-of-lt h) (le-of-lt g) in omega arith

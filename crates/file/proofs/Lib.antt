@@ -7,3 +7,4 @@ pub mod Halving
 pub mod Asks
 pub mod Looks
 pub mod Stores
+pub mod Words

@@ -3,3 +3,4 @@ pub mod Fits
 pub mod Names
 pub mod Facts
 pub mod Lookup
+pub mod Commits

@@ -6,7 +6,8 @@ use borrow.Author.Needs.{needs}
 use lib.ListN.{length}
 use Rattle.words.specs.Big.{number}
 use Rattle.file.specs.Lookup.{keyOf, halving}
-use Rattle.file.proofs.Halving.{small-product, halving-none, turn-less, turn-equal, turn-greater}
+use Rattle.file.proofs.Fitting.{small-product}
+use Rattle.file.proofs.Halving.{halving-none, turn-less, turn-equal, turn-greater}
 use Rattle.file.proofs.access.halve.Statement.{statement}
 use Rattle.file.proofs.access.halve.Tie as tie
 use Rattle.file.proofs.access.halve.Reads as reads

@@ -1,0 +1,84 @@
+-- The ways through a parent word, an EDGE word and a row of CDAT.
+use Prim.Native.Nat.{ℕ, zero, suc, _+_, _-_, _*_, _^_, _≤_, _<_}
+use mathlib.Core.List.{List}
+use mathlib.Core.Bool.{Bool, true, false, not}
+use mathlib.Core.Path.{_≡_, refl, sym, ap, _∙_}
+use native.Mathlib.Omega.{arith}
+use lib.Dec.{ltb, leb, eqb, lit<}
+use lib.ListN.{length}
+use borrow.Author.Tests.{le-leb, lt-leb, le-ltb, ltb-false, eq-eqb, ne-eqb, eqb-true, not-false}
+use Rattle.types.specs.Refusals.{refusal}
+use Rattle.words.proofs.Parts.{length-part}
+use Rattle.words.proofs.Rows.{miss, pass}
+use Rattle.file.specs.Fits.{known, fitRule, askRule, rowsPart, Fitted}
+use Rattle.file.specs.Commits.{pickEdge, edgeOf, pickExtra, extraOf, commitOf, rowRule, refuseCommit, commitIn, commitAt}
+use Rattle.file.specs.declared.File.{File}
+use Rattle.file.specs.declared.commit.Asked.{Asked}
+use Rattle.file.specs.declared.commit.Asked.the-variants.{Commit as Is, Refused}
+use Rattle.file.specs.declared.commit.ParentEdge.the-variants.{None, GraphPosition, ExtraEdgeIndex}
+use Rattle.file.specs.declared.commit.ExtraEdge.the-variants.{Internal, Last}
+use Rattle.file.proofs.Fitting.{Answered, run-within}
+
+module _ (x : ℕ) where
+  pub edge-none : x ≡ 0x70000000 → None ≡ edgeOf x
+  unfolding edgeOf pickEdge
+  edge-none e = rw (eq-eqb x 0x70000000 e)
+
+  pub edge-index : 0x80000000 ≤ x → ExtraEdgeIndex (x - 0x80000000) ≡ edgeOf x
+  unfolding edgeOf pickEdge
+  edge-index h = rw (ne-eqb x 0x70000000 (λ z. omega arith), le-leb 0x80000000 x h)
+
+  pub edge-position : (x ≡ 0x70000000 → ⊥) → x < 0x80000000 → GraphPosition (record { 0 = x }) ≡ edgeOf x
+  unfolding edgeOf pickEdge
+  edge-position n h = rw (ne-eqb x 0x70000000 n, lt-leb 0x80000000 x h)
+
+  pub extra-last : 0x80000000 ≤ x → Last (record { 0 = x - 0x80000000 }) ≡ extraOf x
+  unfolding extraOf pickExtra
+  extra-last h = rw (le-leb 0x80000000 x h)
+
+  pub extra-more : x < 0x80000000 → Internal (record { 0 = x }) ≡ extraOf x
+  unfolding extraOf pickExtra
+  extra-more h = rw (lt-leb 0x80000000 x h)
+
+-- a row that is there
+pub row-there : (w n i : ℕ) → rowRule w n i ≡ 0 → (w ≡ 20) × (i * (w + 16) + (w + 16) ≤ n)
+unfolding rowRule
+row-there w n i e =
+    let p1 = pass 40 _ _ (lit< tt) e in
+    let p2 = pass 40 _ _ (lit< tt) (p1 .1) in
+    (eqb-true _ _ (not-false _ (p1 .0)), ltb-false n (i * (w + 16) + (w + 16)) (p2 .0))
+
+refuse-some : (n : ℕ) (rest : Asked) → 0 < n → Refused (refusal n 0) ≡ refuseCommit n rest
+unfolding refuseCommit
+refuse-some zero rest h = absurd (omega arith)
+refuse-some (suc n) rest h = refl
+
+refuse-none : (n : ℕ) (rest : Asked) → n ≡ 0 → refuseCommit n rest ≡ rest
+unfolding refuseCommit
+refuse-none n rest e = rw e
+
+-- the ways through a row, and through a commit of a file: m is what the rule said
+module _ (w : ℕ) (p : List ℕ) (i m : ℕ) (e : m ≡ rowRule w (length p) i) where
+  pub commit-out : 0 < m → Refused (refusal m 0) ≡ commitIn w p i
+  unfolding commitIn
+  commit-out h = rw (← e) (refuse-some m _ h)
+
+  pub commit-in : m ≤ 0 → Is (commitOf p (i * (w + 16) + w)) ≡ commitIn w p i
+  unfolding commitIn
+  commit-in h = sym (refuse-none (rowRule w (length p) i) _ (omega arith))
+
+pub commit-misfit : (l : List ℕ) (f : File) (i m : ℕ) → m ≡ askRule l f (f .commits) i → 0 < m → Refused (refusal m 0) ≡ commitAt l f i
+unfolding commitAt
+commit-misfit l f i m e h = rw (← e) (refuse-some m _ h)
+
+-- for a record that fits, a row below N is there
+pub row-plain : (l : List ℕ) (f : File) (i : ℕ) → f .width ≡ 20 → Fitted l f → i < f .commits → rowRule (f .width) (length (rowsPart l f)) i ≡ 0
+unfolding rowRule
+row-plain l f i w k h =
+    let n : length (rowsPart l f) ≡ f .commits * (f .width + 16) = length-part (f .cdat) (f .commits * (f .width + 16)) l (k .rows) in
+    sym (miss 40 _ _ 0 (ap not (eq-eqb _ _ w))
+    (miss 40 _ 0 0 (le-ltb (length (rowsPart l f)) (i * (f .width + 16) + (f .width + 16)) (omega (arith, run-within i (f .commits) (f .width + 16) h))) refl))
+
+pub commit-plain : (l : List ℕ) (f : File) (i : ℕ) → f .width ≡ 20 → Answered l f (f .commits) i → commitIn (f .width) (rowsPart l f) i ≡ commitAt l f i
+unfolding commitIn commitAt
+commit-plain l f i w k = refuse-none _ _ (row-plain l f i w (k .fits) (k .below)) ∙ sym (refuse-none _ _ (k .rule))
