@@ -33,7 +33,7 @@ module _ (key : ℕ → ℕ) (x : ℕ) where
       ⊎-elim
       (λ (e : hi ≤ lo). rw (le-leb hi lo e))
       (λ (e : lo < hi).
-        rw (enough k m lo (mid lo hi) (omega arith) (omega arith), enough k m (mid lo hi + 1) hi (omega arith) (omega arith)))
+      rw (enough k m lo (mid lo hi) (omega arith) (omega arith), enough k m (mid lo hi + 1) hi (omega arith) (omega arith)))
       (le-or-lt hi lo)
 
   -- one turn
@@ -41,9 +41,12 @@ module _ (key : ℕ → ℕ) (x : ℕ) where
   unfolding halving turns pick
   opens lo hi h =
       let n : hi - lo ≡ suc (hi - lo - 1) = omega arith in
-      rw (n, lt-leb hi lo h,
+      rw (
+        n,
+        lt-leb hi lo h,
         enough (hi - lo - 1) (mid lo hi - lo) lo (mid lo hi) (omega arith) (omega arith),
-        enough (hi - lo - 1) (hi - (mid lo hi + 1)) (mid lo hi + 1) hi (omega arith) (omega arith))
+        enough (hi - lo - 1) (hi - (mid lo hi + 1)) (mid lo hi + 1) hi (omega arith) (omega arith),
+      )
 
   pub halving-none : (lo hi : ℕ) → hi ≤ lo → halving key x lo hi ≡ Absent
   unfolding halving turns
@@ -65,24 +68,24 @@ module _ (key : ℕ → ℕ) (x : ℕ) where
 
   -- what holds of each turn holds of the whole
   module _ (P : ℕ → ℕ → Found → Type 0)
-    (none : (lo hi : ℕ) → hi ≤ lo → P lo hi Absent)
-    (less : (lo hi m : ℕ) (r : Found) → lo ≤ m → m < hi → x < key m → P lo m r → P lo hi r)
-    (equal : (lo hi m : ℕ) → lo ≤ m → m < hi → x ≡ key m → P lo hi (found m))
-    (greater : (lo hi m : ℕ) (r : Found) → lo ≤ m → m < hi → key m < x → P (m + 1) hi r → P lo hi r) where
+      (none : (lo hi : ℕ) → hi ≤ lo → P lo hi Absent)
+      (less : (lo hi m : ℕ) (r : Found) → lo ≤ m → m < hi → x < key m → P lo m r → P lo hi r)
+      (equal : (lo hi m : ℕ) → lo ≤ m → m < hi → x ≡ key m → P lo hi (found m))
+      (greater : (lo hi m : ℕ) (r : Found) → lo ≤ m → m < hi → key m < x → P (m + 1) hi r → P lo hi r) where
     by-turns : (n lo hi : ℕ) → hi - lo ≤ n → P lo hi (halving key x lo hi)
     by-turns zero lo hi h = let g : hi ≤ lo = omega arith in rw (halving-none lo hi g) (none lo hi g)
     by-turns (suc n) lo hi h =
         ⊎-elim
         (λ (g : hi ≤ lo). rw (halving-none lo hi g) (none lo hi g))
         (λ (g : lo < hi).
-          ⊎-elim
-          (λ (k : key (mid lo hi) ≤ x).
-            ⊎-elim
-            (λ (e : key (mid lo hi) ≡ x). rw (halving-equal lo hi (mid lo hi) g refl (sym e)) (equal lo hi (mid lo hi) (omega arith) (omega arith) (sym e)))
-            (λ (k : key (mid lo hi) < x). rw (halving-greater lo hi (mid lo hi) g refl k) (greater lo hi (mid lo hi) _ (omega arith) (omega arith) k (by-turns n (mid lo hi + 1) hi (omega arith))))
-            (eq-or-lt-of-le k))
-          (λ (k : x < key (mid lo hi)). rw (halving-less lo hi (mid lo hi) g refl k) (less lo hi (mid lo hi) _ (omega arith) (omega arith) k (by-turns n lo (mid lo hi) (omega arith))))
-          (le-or-lt (key (mid lo hi)) x))
+        ⊎-elim
+        (λ (k : key (mid lo hi) ≤ x).
+        ⊎-elim
+        (λ (e : key (mid lo hi) ≡ x). rw (halving-equal lo hi (mid lo hi) g refl (sym e)) (equal lo hi (mid lo hi) (omega arith) (omega arith) (sym e)))
+        (λ (k : key (mid lo hi) < x). rw (halving-greater lo hi (mid lo hi) g refl k) (greater lo hi (mid lo hi) _ (omega arith) (omega arith) k (by-turns n (mid lo hi + 1) hi (omega arith))))
+        (eq-or-lt-of-le k))
+        (λ (k : x < key (mid lo hi)). rw (halving-less lo hi (mid lo hi) g refl k) (less lo hi (mid lo hi) _ (omega arith) (omega arith) k (by-turns n lo (mid lo hi) (omega arith))))
+        (le-or-lt (key (mid lo hi)) x))
         (le-or-lt hi lo)
 
     pub halving-ind : (lo hi : ℕ) → P lo hi (halving key x lo hi)
@@ -117,10 +120,10 @@ module _ (key : ℕ → ℕ) (x : ℕ) where
     before m i a b k =
         ⊎-elim
         (λ (h : m ≤ i).
-          ⊎-elim
-          (λ (d : m ≡ i). let z : key m ≡ key i = ap key d in absurd (omega arith))
-          (λ (d : m < i). let z = up m i d b in absurd (omega arith))
-          (eq-or-lt-of-le h))
+        ⊎-elim
+        (λ (d : m ≡ i). let z : key m ≡ key i = ap key d in absurd (omega arith))
+        (λ (d : m < i). let z = up m i d b in absurd (omega arith))
+        (eq-or-lt-of-le h))
         (λ (h : i < m). h)
         (le-or-lt m i)
 

@@ -8,3 +8,4 @@ pub mod Asks
 pub mod Looks
 pub mod Stores
 pub mod Words
+pub mod Walking

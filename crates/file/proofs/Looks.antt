@@ -51,7 +51,7 @@ module _ (l : List ℕ) (f : File) (x : List ℕ) (m : ℕ) (e : m ≡ fitRule l
       unfolding lookupOf
       look-out h =
           let q : 40 ≡ (40 if ltb (f .commits) (upper (fanPart l f) (getD x 0 0)) else 0) =
-              hit 40 _ 0 (lt-ltb (f .commits) (upper (fanPart l f) (getD x 0 0)) (omega arith)) in
+          hit 40 _ 0 (lt-ltb (f .commits) (upper (fanPart l f) (getD x 0 0)) (omega arith)) in
           refuse-no _ _ _ none (refuse-no _ _ _ wide (ap (λ (n : ℕ). Refused (refusal n 0)) q ∙ refuse-yes _ _ (rw (← q) (omega arith))))
 
       pub look-search : to ≤ f .commits → (from : ℕ) → from ≡ lower (fanPart l f) (getD x 0 0)

@@ -119,7 +119,7 @@ module _ (l : List ℕ) (f : File) (o : Opened l f) (u : Rises l f) where
           let hi : i < upper (fanPart l f) (getD x 0 0) = rw b (d .high i h) in
           sym (plain w)
           ∙ halving-whole (keyOf (f .width) (idsPart l f)) (number x) (f .commits) up _ _ i (upper-le (getD x 0 0) (bx 0)) lo hi
-            (number-is (idsPart l f) x (i * f .width) (f .width) bi bx w (id-within i h) e)
+          (number-is (idsPart l f) x (i * f .width) (f .width) bi bx w (id-within i h) e)
 
       finds : length x ≡ f .width → Finds l f x (lookupOf l f x)
       finds w =

@@ -11,7 +11,7 @@ use Rattle.types.specs.Refusals.{refusal}
 use Rattle.words.proofs.Parts.{length-part}
 use Rattle.words.proofs.Rows.{miss, pass}
 use Rattle.file.specs.Fits.{known, fitRule, askRule, rowsPart, Fitted}
-use Rattle.file.specs.Commits.{pickEdge, edgeOf, pickExtra, extraOf, commitOf, rowRule, refuseCommit, commitIn, commitAt}
+use Rattle.file.specs.Commits.{pickEdge, edgeOf, pickExtra, extraOf, commitOf, rowRule, refuseCommit, commitIn, rowOf, commitAt}
 use Rattle.file.specs.declared.File.{File}
 use Rattle.file.specs.declared.commit.Asked.{Asked}
 use Rattle.file.specs.declared.commit.Asked.the-variants.{Commit as Is, Refused}
@@ -71,14 +71,12 @@ pub commit-misfit : (l : List ℕ) (f : File) (i m : ℕ) → m ≡ askRule l f 
 unfolding commitAt
 commit-misfit l f i m e h = rw (← e) (refuse-some m _ h)
 
--- for a record that fits, a row below N is there
-pub row-plain : (l : List ℕ) (f : File) (i : ℕ) → f .width ≡ 20 → Fitted l f → i < f .commits → rowRule (f .width) (length (rowsPart l f)) i ≡ 0
-unfolding rowRule
-row-plain l f i w k h =
-    let n : length (rowsPart l f) ≡ f .commits * (f .width + 16) = length-part (f .cdat) (f .commits * (f .width + 16)) l (k .rows) in
-    sym (miss 40 _ _ 0 (ap not (eq-eqb _ _ w))
-    (miss 40 _ 0 0 (le-ltb (length (rowsPart l f)) (i * (f .width + 16) + (f .width + 16)) (omega (arith, run-within i (f .commits) (f .width + 16) h))) refl))
+pub commit-plain : (l : List ℕ) (f : File) (i : ℕ) → Answered l f (f .commits) i → Is (rowOf l f i) ≡ commitAt l f i
+unfolding commitAt
+commit-plain l f i k = sym (refuse-none _ _ (k .rule))
 
-pub commit-plain : (l : List ℕ) (f : File) (i : ℕ) → f .width ≡ 20 → Answered l f (f .commits) i → commitIn (f .width) (rowsPart l f) i ≡ commitAt l f i
-unfolding commitIn commitAt
-commit-plain l f i w k = refuse-none _ _ (row-plain l f i w (k .fits) (k .below)) ∙ sym (refuse-none _ _ (k .rule))
+-- row i of a record that fits: where its fields lie in the rows' part p
+pub fields-room : (l p : List ℕ) (f : File) (i : ℕ) → Fitted l f → p ≡ rowsPart l f → i < f .commits → i * (f .width + 16) + f .width + 16 ≤ length p
+fields-room l p f i k e h =
+    let n : length (rowsPart l f) ≡ f .commits * (f .width + 16) = length-part (f .cdat) (f .commits * (f .width + 16)) l (k .rows) in
+    rw e (omega (arith, run-within i (f .commits) (f .width + 16) h))

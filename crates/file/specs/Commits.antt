@@ -68,5 +68,8 @@ unfoldable pub commitIn : ℕ → List ℕ → ℕ → Asked
 commitIn w p i = refuseCommit (rowRule w (length p) i) (Is (commitOf p (i * (w + 16) + w)))
 
 -- a commit of a file
+abbrev pub rowOf : List ℕ → File → ℕ → Commit
+rowOf l f i = commitOf (rowsPart l f) (i * (f .width + 16) + f .width)
+
 unfoldable pub commitAt : List ℕ → File → ℕ → Asked
-commitAt l f i = refuseCommit (askRule l f (f .commits) i) (Is (commitOf (rowsPart l f) (i * (f .width + 16) + f .width)))
+commitAt l f i = refuseCommit (askRule l f (f .commits) i) (Is (rowOf l f i))

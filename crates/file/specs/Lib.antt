@@ -4,3 +4,4 @@ pub mod Names
 pub mod Facts
 pub mod Lookup
 pub mod Commits
+pub mod Walks

@@ -1,11 +1,20 @@
 // Ids of one file: at a position, of its bases, and the position of an id.
-use super::fit::{ask, base, cdat, fit, oidf, oidl, row};
 use super::File;
+use super::fit::ask;
+use super::fit::base;
+use super::fit::cdat;
+use super::fit::fit;
+use super::fit::oidf;
+use super::fit::oidl;
+use super::fit::row;
 use types::file::Position;
 use types::refusal;
-use types::refusal::{Refusal, ID_WIDTH, POSITION};
+use types::refusal::ID_WIDTH;
+use types::refusal::POSITION;
+use types::refusal::Refusal;
 use words::big::be32;
-use words::order::{compare, Order};
+use words::order::Order;
+use words::order::compare;
 ghost use mathlib.Core.Path.{_≡_};
 ghost use Prim.Native.Nat.{_+_, _*_, _<_};
 ghost use lib.ListN.{length};

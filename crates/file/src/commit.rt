@@ -1,16 +1,19 @@
 // Commits of one file: generation, time and parent words.
-use super::fit::{ask, cdat};
 use super::File;
+use super::fit::ask;
+use super::fit::cdat;
 use types::file;
 use types::graph::Position;
 use types::refusal;
-use types::refusal::{Refusal, POSITION};
+use types::refusal::POSITION;
+use types::refusal::Refusal;
 use words::big::be32;
 ghost use mathlib.Core.Path.{_≡_};
 ghost use Prim.Native.Nat.{_+_, _*_, _≤_, _<_};
 ghost use lib.ListN.{length};
 ghost use Rattle.types.specs.Refusals.{refusal};
-ghost use Rattle.file.specs.Commits.{edgeOf, extraOf, rowRule, commitOf, commitIn, commitAt};
+ghost use Rattle.file.specs.Commits.{edgeOf, extraOf, rowRule, commitOf, commitIn, rowOf, commitAt};
+ghost use Rattle.file.specs.Fits.{Fitted};
 
 // A parent word: none, a position in the chain, or an index into EDGE.
 pub enum ParentEdge {
@@ -109,5 +112,15 @@ pub fn commit_at(s: &[u8], f: File, pos: file::Position) -> Asked
     if 0 < m {
         return Asked::Refused(refusal::at(m, 0));
     }
-    commit_in(cdat(s, f), f.width, pos)
+    Asked::Commit(row_at(s, f, pos.0))
+}
+
+// The fields of commit `i`, of a record that fits.
+pub(crate) fn row_at(s: &[u8], f: File, i: u32) -> Commit
+    requires { ⌜ Fitted (now s) f ⌝ }
+    requires { ⌜ i < f .commits ⌝ }
+    ensures { λ r. ⌜ r ≡ rowOf (now (s .entry)) f i ⌝ }
+{
+    let w = f.width;
+    fields(cdat(s, f), (i as usize) * (w + 16) + w)
 }

@@ -1,6 +1,8 @@
 // Whether a file's record fits the bytes it is used with, and the parts that it cuts out of them. A record may be forged, or of another file.
 use super::File;
-use chunk::{size, start, Chunk};
+use chunk::Chunk;
+use chunk::size;
+use chunk::start;
 use types::refusal::POSITION;
 use words::part::room;
 ghost use mathlib.Core.Path.{_≡_};

@@ -4,6 +4,7 @@ pub mod commit;
 mod fit;
 pub mod init;
 pub mod name;
+pub mod parents;
 mod rules;
 
 use chunk::Chunk;

@@ -10,9 +10,6 @@ use Rattle.file.proofs.Fitting.{small-product}
 use Rattle.file.proofs.Halving.{halving-none, turn-less, turn-equal, turn-greater}
 use Rattle.file.proofs.access.halve.Statement.{statement}
 use Rattle.file.proofs.access.halve.Tie as tie
-use Rattle.file.proofs.access.halve.Reads as reads
-use Rattle.file.proofs.access.halve.Lts as lts
-use Rattle.words.proofs.order.compare.Reads as compare-reads
 
 abbrev Inv-loop : tie.InvT-loop
 Inv-loop ids x from to w lo₀ hi₀ lo hi = (hi ≤ to) × (halving (keyOf (length x) ids) (number x) from to ≡ halving (keyOf (length x) ids) (number x) lo hi)
@@ -20,39 +17,12 @@ Inv-loop ids x from to w lo₀ hi₀ lo hi = (hi ≤ to) × (halving (keyOf (len
 abbrev μ-loop : tie.MeasureT-loop
 μ-loop ids x from to w lo₀ hi₀ lo hi = hi - lo
 
--- src/access.rt:106:5
 loop-holds : tie.Need-loop-holds Inv-loop μ-loop
 loop-holds c = (omega arith, refl)
 
--- src/access.rt:107:23
-sub-m : tie.Need-sub-m Inv-loop μ-loop
-sub-m c = omega arith
-
--- src/access.rt:107:17
-add-m : tie.Need-add-m Inv-loop μ-loop
-add-m c = omega arith
-
--- src/access.rt:108:32
-cast-compare : tie.Need-cast-compare Inv-loop μ-loop
-cast-compare c = omega arith
-
--- src/access.rt:108:31
 mul-compare : tie.Need-mul-compare Inv-loop μ-loop
 mul-compare c = omega (arith, small-product _ _ (let m : c .before .loop .lo + (c .before .loop .hi - c .before .loop .lo) / 2 < 2 ^ 32 = omega arith in m) (c .before .before .before .before .pre))
 
--- src/access.rt:108:15
-compare-requires : tie.Need-compare-requires Inv-loop μ-loop
-compare-requires c κs = search needs
-
--- src/access.rt:110:17
-enum-told : tie.Need-enum-told Inv-loop μ-loop
-enum-told c = search needs
-
--- src/access.rt:106:5
-loop-less : tie.Need-loop-less Inv-loop μ-loop
-loop-less c = omega arith
-
--- src/access.rt:106:5
 loop-again : tie.Need-loop-again Inv-loop μ-loop
 unfolding keyOf
 loop-again c =
@@ -60,11 +30,6 @@ loop-again c =
     let x = now (c .before .before .before .before .before .before .before .args .x) in
     (omega arith, turn-less (keyOf (length x) ids) (number x) _ _ _ _ _ (c .before .before .before .before .loop .inv .1) (c .before .before .before .loop-test .taken) refl (c .before .before .compare .ensures) (c .enum-told .given .1))
 
--- src/access.rt:113:34
-enum-told-2 : tie.Need-enum-told-2 Inv-loop μ-loop
-enum-told-2 c = search needs
-
--- src/access.rt:113:17
 returns : tie.Need-returns Inv-loop μ-loop
 unfolding keyOf
 returns c =
@@ -72,19 +37,6 @@ returns c =
     let x = now (c .before .before .before .before .before .before .before .args .x) in
     sym (turn-equal (keyOf (length x) ids) (number x) _ _ _ _ _ (c .before .before .before .before .loop .inv .1) (c .before .before .before .loop-test .taken) refl (c .before .before .compare .ensures) (c .enum-told2 .given .1))
 
--- src/access.rt:116:22
-enum-told-3 : tie.Need-enum-told-3 Inv-loop μ-loop
-enum-told-3 c = search needs
-
--- src/access.rt:116:22
-add-lo : tie.Need-add-lo Inv-loop μ-loop
-add-lo c = omega arith
-
--- src/access.rt:106:5
-loop-less-2 : tie.Need-loop-less-2 Inv-loop μ-loop
-loop-less-2 c = omega arith
-
--- src/access.rt:106:5
 loop-again-2 : tie.Need-loop-again-2 Inv-loop μ-loop
 unfolding keyOf
 loop-again-2 c =
@@ -92,7 +44,6 @@ loop-again-2 c =
     let x = now (c .before .before .before .before .before .before .before .args .x) in
     (omega arith, turn-greater (keyOf (length x) ids) (number x) _ _ _ _ _ (c .before .before .before .before .loop .inv .1) (c .before .before .before .loop-test .taken) refl (c .before .before .compare .ensures) (c .enum-told3 .given .1))
 
--- src/access.rt:99:1
 returns-2 : tie.Need-returns-2 Inv-loop μ-loop
 returns-2 c = sym (c .before .loop .inv .1 ∙ halving-none _ _ _ _ (c .loop-test .left))
 
@@ -103,18 +54,18 @@ halve-spec =
     Inv-loop
     μ-loop
     loop-holds
-    sub-m
-    add-m
-    cast-compare
+    (λ c. omega arith)
+    (λ c. omega arith)
+    (λ c. omega arith)
     mul-compare
-    compare-requires
-    enum-told
-    loop-less
+    (λ c κs. search needs)
+    (λ c. search needs)
+    (λ c. omega arith)
     loop-again
-    enum-told-2
+    (λ c. search needs)
     returns
-    enum-told-3
-    add-lo
-    loop-less-2
+    (λ c. search needs)
+    (λ c. omega arith)
+    (λ c. omega arith)
     loop-again-2
     returns-2)

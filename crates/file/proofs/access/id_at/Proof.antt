@@ -6,43 +6,18 @@ use Rattle.file.proofs.Fitting.{Answered, answered, part-none, row-room
 use borrow.Author.Needs.{needs}
 use Rattle.file.proofs.access.id_at.Statement.{statement}
 use Rattle.file.proofs.access.id_at.Tie as tie
-use Rattle.file.proofs.access.id_at.Reads as reads
-use Rattle.file.proofs.access.id_at.Lts as lts
-use Rattle.file.proofs.fit.ask.Reads as ask-reads
-use Rattle.file.proofs.fit.oidl.Reads as oidl-reads
-use Rattle.file.proofs.fit.row.Reads as row-reads
 
--- src/access.rt:33:12
-ask-requires : tie.Need-ask-requires
-ask-requires c κs = search needs
-
--- src/access.rt:34:16
-sub-result : tie.Need-sub-result
-sub-result c = search needs
-
--- src/access.rt:34:16
-part-result-start : tie.Need-part-result-start
-part-result-start c = search needs
-
--- src/access.rt:34:16
-part-result-end : tie.Need-part-result-end
-part-result-end c = search needs
-
--- src/access.rt:34:9
 returns : tie.Need-returns
 returns c = part-none _ _ _ _ _ _ (c .before .before .ask .ensures) (c .before .if1 .taken) (record { block = refl; start = omega arith; bytes = refl })
 
--- src/access.rt:36:9
 oidl-requires : tie.Need-oidl-requires
 oidl-requires c κs = (answered (now (c .before .before .before .args .s)) (c .before .before .before .args .f) (c .before .before .before .args .f .commits) (c .before .before .before .args .pos .0) _ (c .before .ask .ensures) (c .if1 .left)) .fits
 
--- src/access.rt:36:5
 row-requires : tie.Need-row-requires
 row-requires c κs =
     let k = answered (now (c .before .before .before .before .args .s)) (c .before .before .before .before .args .f) (c .before .before .before .before .args .f .commits) (c .before .before .before .before .args .pos .0) _ (c .before .before .ask .ensures) (c .before .if1 .left) in
     (omega (arith, k .fits), row-room (c .before .before .before .before .args .f .oidl) (c .before .before .before .before .args .f .commits) (c .before .before .before .before .args .f .width) (c .before .before .before .before .args .pos .0) (c .before .before .before .before .args .f .width) (c .oidl .ensures) (k .below) (omega arith) (k .fits .ids))
 
--- src/access.rt:30:1
 returns-2 : tie.Need-returns-2
 returns-2 c =
     let k = answered (now (c .before .before .before .before .before .args .s)) (c .before .before .before .before .before .args .f) (c .before .before .before .before .before .args .f .commits) (c .before .before .before .before .before .args .pos .0) _ (c .before .before .before .ask .ensures) (c .before .before .if1 .left) in
@@ -52,10 +27,10 @@ pub id-at-spec : {M : Type 1} → statement M
 id-at-spec =
     tie.close
     (tie.spec
-    ask-requires
-    sub-result
-    part-result-start
-    part-result-end
+    (λ c κs. search needs)
+    (λ c. search needs)
+    (λ c. search needs)
+    (λ c. search needs)
     returns
     oidl-requires
     row-requires

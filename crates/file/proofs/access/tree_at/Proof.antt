@@ -6,47 +6,21 @@ use Rattle.file.proofs.Fitting.{Answered, answered, part-none, row-room
 use borrow.Author.Needs.{needs}
 use Rattle.file.proofs.access.tree_at.Statement.{statement}
 use Rattle.file.proofs.access.tree_at.Tie as tie
-use Rattle.file.proofs.access.tree_at.Reads as reads
-use Rattle.file.proofs.access.tree_at.Lts as lts
-use Rattle.file.proofs.fit.ask.Reads as ask-reads
-use Rattle.file.proofs.fit.cdat.Reads as cdat-reads
-use Rattle.file.proofs.fit.row.Reads as row-reads
 
--- src/access.rt:43:12
-ask-requires : tie.Need-ask-requires
-ask-requires c κs = search needs
-
--- src/access.rt:44:16
-sub-result : tie.Need-sub-result
-sub-result c = search needs
-
--- src/access.rt:44:16
-part-result-start : tie.Need-part-result-start
-part-result-start c = search needs
-
--- src/access.rt:44:16
-part-result-end : tie.Need-part-result-end
-part-result-end c = search needs
-
--- src/access.rt:44:9
 returns : tie.Need-returns
 returns c = part-none _ _ _ _ _ _ (c .before .before .ask .ensures) (c .before .if1 .taken) (record { block = refl; start = omega arith; bytes = refl })
 
--- src/access.rt:46:9
 cdat-requires : tie.Need-cdat-requires
 cdat-requires c κs = (answered (now (c .before .before .before .args .s)) (c .before .before .before .args .f) (c .before .before .before .args .f .commits) (c .before .before .before .args .pos .0) _ (c .before .ask .ensures) (c .if1 .left)) .fits
 
--- src/access.rt:46:28
 add-row : tie.Need-add-row
 add-row c = omega (arith, (answered (now (c .before .before .before .before .before .args .s)) (c .before .before .before .before .before .args .f) (c .before .before .before .before .before .args .f .commits) (c .before .before .before .before .before .args .pos .0) _ (c .before .before .before .ask .ensures) (c .before .before .if1 .left)) .fits)
 
--- src/access.rt:46:5
 row-requires : tie.Need-row-requires
 row-requires c κs =
     let k = answered (now (c .before .before .before .before .before .args .s)) (c .before .before .before .before .before .args .f) (c .before .before .before .before .before .args .f .commits) (c .before .before .before .before .before .args .pos .0) _ (c .before .before .before .ask .ensures) (c .before .before .if1 .left) in
     (omega (arith, k .fits), row-room (c .before .before .before .before .before .args .f .cdat) (c .before .before .before .before .before .args .f .commits) (c .before .before .before .before .before .args .f .width + 16) (c .before .before .before .before .before .args .pos .0) (c .before .before .before .before .before .args .f .width) (c .before .cdat .ensures) (k .below) (omega arith) (k .fits .rows))
 
--- src/access.rt:40:1
 returns-2 : tie.Need-returns-2
 returns-2 c =
     let k = answered (now (c .before .before .before .before .before .before .args .s)) (c .before .before .before .before .before .before .args .f) (c .before .before .before .before .before .before .args .f .commits) (c .before .before .before .before .before .before .args .pos .0) _ (c .before .before .before .before .ask .ensures) (c .before .before .before .if1 .left) in
@@ -56,10 +30,10 @@ pub tree-at-spec : {M : Type 1} → statement M
 tree-at-spec =
     tie.close
     (tie.spec
-    ask-requires
-    sub-result
-    part-result-start
-    part-result-end
+    (λ c κs. search needs)
+    (λ c. search needs)
+    (λ c. search needs)
+    (λ c. search needs)
     returns
     cdat-requires
     add-row

@@ -9,49 +9,26 @@ use Rattle.file.proofs.Words.{row-there, commit-out, commit-in}
 use borrow.Author.Needs.{needs}
 use Rattle.file.proofs.commit.commit_in.Statement.{statement}
 use Rattle.file.proofs.commit.commit_in.Tie as tie
-use Rattle.file.proofs.commit.commit_in.Reads as reads
-use Rattle.file.proofs.commit.commit_in.Lts as lts
-use Rattle.file.proofs.commit.fields.Reads as fields-reads
-use Rattle.file.proofs.commit.row_rule.Reads as row-rule-reads
-use Rattle.types.proofs.refusal.at.Reads as at-reads
 
 -- the row is there
 there : (c : tie.Else1) → (c .before .before .before .args .w ≡ 20) × (c .before .before .before .args .pos .0 * (c .before .before .before .args .w + 16) + (c .before .before .before .args .w + 16) ≤ length (now (c .before .before .before .args .cdat)))
 there c = row-there (c .before .before .before .args .w) (length (now (c .before .before .before .args .cdat))) (c .before .before .before .args .pos .0) (zero-of (c .before .row-rule .ensures) (c .if1 .left))
 
--- src/commit.rt:97:9
-row-rule-requires : tie.Need-row-rule-requires
-row-rule-requires c κs = search needs
-
--- src/commit.rt:99:31
-at-requires : tie.Need-at-requires
-at-requires c κs = search needs
-
--- src/commit.rt:99:9
 returns : tie.Need-returns
 returns c = ap Refused (c .at .ensures) ∙ commit-out _ _ _ _ (c .before .before .row-rule .ensures) (c .before .if1 .taken)
 
--- src/commit.rt:101:33
-cast-fields : tie.Need-cast-fields
-cast-fields c = search needs
-
--- src/commit.rt:101:48
 add-fields : tie.Need-add-fields
 add-fields c = omega (arith, there c)
 
--- src/commit.rt:101:32
 mul-fields : tie.Need-mul-fields
 mul-fields c = omega (arith, there c)
 
--- src/commit.rt:101:32
 add-fields-2 : tie.Need-add-fields-2
 add-fields-2 c = omega (arith, there c)
 
--- src/commit.rt:101:19
 fields-requires : tie.Need-fields-requires
 fields-requires c κs = omega (arith, there c)
 
--- src/commit.rt:93:1
 returns-2 : tie.Need-returns-2
 returns-2 c = ap Is (c .fields .ensures) ∙ commit-in _ _ _ _ (c .before .before .row-rule .ensures) (c .before .if1 .left)
 
@@ -59,10 +36,10 @@ pub commit-in-spec : {M : Type 1} → statement M
 commit-in-spec =
     tie.close
     (tie.spec
-    row-rule-requires
-    at-requires
+    (λ c κs. search needs)
+    (λ c κs. search needs)
     returns
-    cast-fields
+    (λ c. search needs)
     add-fields
     mul-fields
     add-fields-2

@@ -1,16 +1,14 @@
 use Rattle.file.proofs.Words.{extra-last, extra-more}
 use Rattle.file.proofs.commit.extra_edge.Statement.{statement}
 use Rattle.file.proofs.commit.extra_edge.Tie as tie
-use Rattle.file.proofs.commit.extra_edge.Reads as reads
-use Rattle.file.proofs.commit.extra_edge.Lts as lts
 
--- src/commit.rt:56:9
 returns : tie.Need-returns
 returns c = extra-last _ (c .if1 .taken)
 
--- src/commit.rt:52:1
 returns-2 : tie.Need-returns-2
 returns-2 c = extra-more _ (c .if1 .left)
 
 pub extra-edge-spec : {M : Type 1} → statement M
-extra-edge-spec = tie.close (tie.spec returns returns-2)
+extra-edge-spec = tie.close (tie.spec
+    returns
+    returns-2)

@@ -3,25 +3,19 @@ use Rattle.file.proofs.Fitting.{ask-misfit, ask-out, ask-fine}
 use borrow.Author.Needs.{needs}
 use Rattle.file.proofs.fit.ask.Statement.{statement}
 use Rattle.file.proofs.fit.ask.Tie as tie
-use Rattle.file.proofs.fit.ask.Reads as reads
-use Rattle.file.proofs.fit.ask.Lts as lts
-use Rattle.file.proofs.fit.fit.Reads as fit-reads
 
--- src/fit.rt:46:9
-fit-requires : tie.Need-fit-requires
-fit-requires c κs = search needs
-
--- src/fit.rt:48:9
 returns : tie.Need-returns
 returns c = ask-misfit (now (c .before .before .before .args .s)) (c .before .before .before .args .f) _ _ _ (c .before .fit .ensures) (c .if1 .taken)
 
--- src/fit.rt:51:9
 returns-2 : tie.Need-returns-2
 returns-2 c = ask-out (now (c .before .before .before .before .args .s)) (c .before .before .before .before .args .f) _ _ _ (c .before .before .fit .ensures) (c .before .if1 .left) (c .if2 .taken)
 
--- src/fit.rt:43:1
 returns-3 : tie.Need-returns-3
 returns-3 c = ask-fine (now (c .before .before .before .before .args .s)) (c .before .before .before .before .args .f) _ _ _ (c .before .before .fit .ensures) (c .before .if1 .left) (c .if2 .left)
 
 pub ask-spec : {M : Type 1} → statement M
-ask-spec = tie.close (tie.spec fit-requires returns returns-2 returns-3)
+ask-spec = tie.close (tie.spec
+    (λ c κs. search needs)
+    returns
+    returns-2
+    returns-3)

@@ -11,9 +11,29 @@ pub locate-spec : {M : Type 1} → statement M
 locate-spec =
     tie.close
     (tie.spec
-    (λ c κs. search needs)
-    (λ c κs. search needs)
-    (λ c κs. search needs)
-    (λ c κs. search needs)
-    (λ c κs. search needs)
+    (λ
+    c
+    κs.
+    search
+    needs)
+    (λ
+    c
+    κs.
+    search
+    needs)
+    (λ
+    c
+    κs.
+    search
+    needs)
+    (λ
+    c
+    κs.
+    search
+    needs)
+    (λ
+    c
+    κs.
+    search
+    needs)
     returns)
