@@ -10,8 +10,8 @@ use lib.ListN.{length}
 use denote.Ref.{RefT}
 use borrow.Author.Tests.{le-leb, lt-leb, lt-ltb, le-ltb, ltb-true, leb-true, leb-false, ltb-false, eqb-true, eq-eqb, ne-eqb, not-false}
 use Rattle.words.specs.First.{_if_else_}
-use Rattle.words.specs.Part.{fits, PartOf}
-use Rattle.words.proofs.Parts.{part-part, part-length}
+use Rattle.words.specs.Part.{fits, PartOf, RecordsOf}
+use Rattle.words.proofs.Parts.{part-part, part-length, records-in}
 use Rattle.words.proofs.Rows.{hit, miss, pass}
 use Rattle.chunk.specs.Index.{startOf, sizeOf}
 use Rattle.file.specs.Fits.{known, fitRule, askRule, AskedPart, Fitted}
@@ -113,8 +113,10 @@ module _ {s p : RefT (List ℕ)} (at n r i w : ℕ) (q : PartOf s at (n * r) p) 
   pub row-room : at + n * r ≤ length (s .now) → i * r + w ≤ length (p .now)
   row-room z = let l = part-length q z in omega (arith, run-within i n r h)
 
-  pub row-part : (m : ℕ) {x : RefT (List ℕ)} → m ≡ 0 → PartOf p (i * r) w x → AskedPart s m (at + i * r) w x
-  row-part m {x} e k = part-fine s x m (at + i * r) w e (part-part q k (let z = run-within i n r h in omega arith))
+  pub row-part : (m : ℕ) {x : RefT (List ℕ)} → m ≡ 0 → at + n * r ≤ length (s .now) → RecordsOf p (i * r) w 1 x → AskedPart s m (at + i * r) w x
+  row-part m {x} e z k =
+      let y : PartOf p (i * r) w x = rw mul-one at (records-in p x (i * r) w 1 (rw mul-one (row-room z)) k) in
+      part-fine s x m (at + i * r) w e (part-part q y (let u = run-within i n r h in omega arith))
 
 -- a number that is not above 0
 pub zero-of : {m n : ℕ} → m ≡ n → m ≤ 0 → n ≡ 0

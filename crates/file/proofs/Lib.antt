@@ -3,9 +3,3 @@ pub mod Stages
 pub mod Opens
 pub mod Hex
 pub mod Fitting
-pub mod Halving
-pub mod Asks
-pub mod Looks
-pub mod Stores
-pub mod Words
-pub mod Walking

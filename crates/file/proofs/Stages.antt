@@ -8,11 +8,12 @@ use native.Mathlib.Nat.{le-refl, mul-one}
 use lib.Dec.{ltb, eqb, lit<}
 use lib.ListN.{length, take, drop}
 use denote.Ref.{RefT}
-use borrow.Author.Tests.{lt-ltb, le-ltb, le-leb, ltb-false}
+use borrow.Author.Tests.{lt-ltb, le-ltb, ltb-false}
 use Rattle.types.specs.Refusals.{refusal}
 use Rattle.types.specs.declared.refusal.Refusal.{Refusal}
 use Rattle.words.specs.First.{_if_else_}
-use Rattle.words.specs.Part.{PartOf, RecordsOf}
+use Rattle.words.specs.Part.{RecordsOf}
+use Rattle.words.proofs.Parts.{records-in}
 use Rattle.words.proofs.Rows.{hit, miss, pass}
 use Rattle.chunk.specs.Index.{startOf, sizeOf}
 use Rattle.chunk.specs.declared.Chunk.{Chunk}
@@ -75,8 +76,4 @@ width-known l = refl
 -- the part that was cut out of a file for a chunk that lies in it is the chunk's own bytes
 pub cut-part : (s r : RefT (List ℕ)) (c : Chunk) (a n : ℕ) → a ≡ startOf c → n ≡ sizeOf c → startOf c + sizeOf c ≤ length (s .now)
     → RecordsOf s a n 1 r → r .now ≡ partOf (s .now) c
-unfolding _if_else_
-cut-part s r c a n d e h p =
-    let g : a + n * 1 ≤ length (s .now) = omega arith in
-    let q : PartOf s a (n * 1) r = rw (le-leb (a + n * 1) (length (s .now)) g) at p in
-    q .bytes ∙ rw (mul-one, d, e)
+cut-part s r c a n d e h p = records-in s r a n 1 (omega arith) p .bytes ∙ rw (mul-one, d, e)

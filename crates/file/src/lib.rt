@@ -1,10 +1,7 @@
 // One commit-graph file. The ids and numbers are those of gitformat-commit-graph.
-pub mod access;
-pub mod commit;
-mod fit;
+pub mod fit;
 pub mod init;
 pub mod name;
-pub mod parents;
 mod rules;
 
 use chunk::Chunk;

@@ -73,3 +73,8 @@ module _ (s : RefT (List ℕ)) (at count w : ℕ) {t : Bool} (e : t ≡ fits (le
   pub uncut : {r : RefT (List ℕ)} → t ≡ false → PartOf s 0 0 r → RecordsOf s at count w r
   unfolding _if_else_
   uncut h p = rw (sym e ∙ h) p
+
+-- records that lie in the slice: what is handed out is their part
+pub records-in : (s r : RefT (List ℕ)) (at count w : ℕ) → at + count * w ≤ length (s .now) → RecordsOf s at count w r → PartOf s at (count * w) r
+unfolding _if_else_
+records-in s r at count w h p = rw (le-leb (at + count * w) (length (s .now)) h) at p

@@ -1,0 +1,4 @@
+pub mod Halving
+pub mod Asks
+pub mod Looks
+pub mod Stores

@@ -1,0 +1,62 @@
+-- The ways through a lookup.
+use Prim.Native.Nat.{ℕ, zero, suc, _+_, _*_, _≤_, _<_}
+use mathlib.Core.List.{List}
+use mathlib.Core.Bool.{Bool, true, false, not}
+use mathlib.Core.Path.{_≡_, refl, sym, ap, _∙_}
+use native.Mathlib.Omega.{arith}
+use lib.Dec.{ltb, eqb, lit<}
+use lib.ListN.{length, getD}
+use borrow.Author.Tests.{lt-ltb, le-ltb}
+use Rattle.types.specs.Refusals.{refusal}
+use Rattle.words.specs.Big.{be, number}
+use Rattle.words.specs.First.{_if_else_}
+use Rattle.words.proofs.Rows.{hit, miss, eq-not, ne-not}
+use Rattle.file.specs.Fits.{fitRule, fanPart, idsPart}
+use Rattle.access.specs.Lookup.{halving, keyOf, upper, lower, refuse, lookupOf}
+use Rattle.file.specs.declared.File.{File}
+use Rattle.access.specs.declared.Found.{Found}
+use Rattle.access.specs.declared.Found.the-variants.{Refused}
+
+refuse-yes : (n : ℕ) (rest : Found) → 0 < n → Refused (refusal n 0) ≡ refuse n rest
+unfolding refuse
+refuse-yes zero rest h = absurd (omega arith)
+refuse-yes (suc n) rest h = refl
+
+refuse-no : (n : ℕ) (rest r : Found) → 0 ≡ n → r ≡ rest → r ≡ refuse n rest
+unfolding refuse
+refuse-no n rest r e h = rw (← e) h
+
+-- m is what the record's rule said
+module _ (l : List ℕ) (f : File) (x : List ℕ) (m : ℕ) (e : m ≡ fitRule l f) where
+  pub look-misfit : 0 < m → Refused (refusal m 0) ≡ lookupOf l f x
+  unfolding lookupOf
+  look-misfit h = rw (← e) (refuse-yes m _ h)
+
+  module _ (z : m ≤ 0) where
+    none : 0 ≡ fitRule l f
+    none = omega arith
+
+    pub look-width : (length x ≡ f .width → ⊥) → Refused (refusal 41 0) ≡ lookupOf l f x
+    unfolding lookupOf
+    look-width h =
+        refuse-no _ _ _ none (ap (λ (n : ℕ). Refused (refusal n 0)) (hit 41 _ 0 (ne-not _ _ h))
+        ∙ refuse-yes (41 if not (eqb (length x) (f .width)) else 0) _ (rw (← hit 41 _ 0 (ne-not _ _ h)) (omega arith)))
+
+    -- `to` is the fan entry of the id's first byte
+    module _ (w : length x ≡ f .width) (to : ℕ) (d : to ≡ upper (fanPart l f) (getD x 0 0)) where
+      wide : 0 ≡ (41 if not (eqb (length x) (f .width)) else 0)
+      wide = miss 41 _ 0 0 (eq-not _ _ w) refl
+
+      pub look-out : f .commits < to → Refused (refusal 40 0) ≡ lookupOf l f x
+      unfolding lookupOf
+      look-out h =
+          let q : 40 ≡ (40 if ltb (f .commits) (upper (fanPart l f) (getD x 0 0)) else 0) =
+          hit 40 _ 0 (lt-ltb (f .commits) (upper (fanPart l f) (getD x 0 0)) (omega arith)) in
+          refuse-no _ _ _ none (refuse-no _ _ _ wide (ap (λ (n : ℕ). Refused (refusal n 0)) q ∙ refuse-yes _ _ (rw (← q) (omega arith))))
+
+      pub look-search : to ≤ f .commits → (from : ℕ) → from ≡ lower (fanPart l f) (getD x 0 0)
+          → halving (keyOf (length x) (idsPart l f)) (number x) from to ≡ lookupOf l f x
+      unfolding lookupOf
+      look-search h from g =
+          refuse-no _ _ _ none (refuse-no _ _ _ wide
+          (refuse-no _ _ _ (miss 40 _ 0 0 (le-ltb (f .commits) (upper (fanPart l f) (getD x 0 0)) (omega arith)) refl) (rw (w, g, d))))

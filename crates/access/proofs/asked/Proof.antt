@@ -1,0 +1,22 @@
+use mathlib.Core.Path.{ap, _∙_}
+use Rattle.access.specs.declared.Asking.the-variants.{Refused}
+use Rattle.access.proofs.Asks.{asking-some, asking-none}
+use borrow.Author.Needs.{needs}
+use Rattle.access.proofs.asked.Statement.{statement}
+use Rattle.access.proofs.asked.Tie as tie
+
+returns : tie.Need-returns
+returns c = ap Refused (c .at .ensures) ∙ asking-some _ (c .before .if1 .taken)
+
+returns-2 : tie.Need-returns-2
+returns-2 c = asking-none _ (c .if1 .left)
+
+pub asked-spec : {M : Type 1} → statement M
+asked-spec = tie.close (tie.spec
+    (λ
+    c
+    κs.
+    search
+    needs)
+    returns
+    returns-2)

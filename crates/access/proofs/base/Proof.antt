@@ -1,0 +1,14 @@
+use native.Mathlib.Omega.{arith}
+use Rattle.words.proofs.Parts.{records-in}
+use borrow.Author.Needs.{needs}
+use Rattle.access.proofs.base.Statement.{statement}
+use Rattle.access.proofs.base.Tie as tie
+
+returns : tie.Need-returns
+returns c = records-in _ _ (c .before .before .before .args .f .base) (c .before .before .before .args .f .bases) (c .before .before .before .args .f .width) (c .before .before .before .pre .base) (c .part .ensures)
+
+pub base-spec : {M : Type 1} → statement M
+base-spec = tie.close (tie.spec
+    (λ c. search needs)
+    (λ c κs. search needs)
+    returns)

@@ -1,0 +1,39 @@
+use Prim.Native.Nat.{_+_}
+use mathlib.Core.Path.{refl}
+use native.Mathlib.Omega.{arith}
+use denote.Ref.{now}
+use Rattle.file.proofs.Fitting.{Answered, answered, part-none, row-part, run-within}
+use borrow.Author.Needs.{needs}
+use Rattle.access.proofs.id_at.Statement.{statement}
+use Rattle.access.proofs.id_at.Tie as tie
+
+returns : tie.Need-returns
+returns c = part-none _ _ _ _ _ _ (c .before .before .ask .ensures) (c .before .if1 .taken) (record { block = refl; start = omega arith; bytes = refl })
+
+oidl-requires : tie.Need-oidl-requires
+oidl-requires c κs = (answered (now (c .before .before .before .args .s)) (c .before .before .before .args .f) (c .before .before .before .args .f .commits) (c .before .before .before .args .pos .0) _ (c .before .ask .ensures) (c .if1 .left)) .fits
+
+mul-part : tie.Need-mul-part
+mul-part c =
+    let k = answered (now (c .before .before .before .before .before .before .args .s)) (c .before .before .before .before .before .before .args .f) (c .before .before .before .before .before .before .args .f .commits) (c .before .before .before .before .before .before .args .pos .0) _ (c .before .before .before .before .ask .ensures) (c .before .before .before .if1 .left) in
+    omega (arith, run-within (c .before .before .before .before .before .before .args .pos .0) (c .before .before .before .before .before .before .args .f .commits) (c .before .before .before .before .before .before .args .f .width) (k .below), k .fits)
+
+returns-2 : tie.Need-returns-2
+returns-2 c =
+    let k = answered (now (c .before .before .before .before .before .before .before .args .s)) (c .before .before .before .before .before .before .before .args .f) (c .before .before .before .before .before .before .before .args .f .commits) (c .before .before .before .before .before .before .before .args .pos .0) _ (c .before .before .before .before .before .ask .ensures) (c .before .before .before .before .if1 .left) in
+    row-part (c .before .before .before .before .before .before .before .args .f .oidl) (c .before .before .before .before .before .before .before .args .f .commits) (c .before .before .before .before .before .before .before .args .f .width) (c .before .before .before .before .before .before .before .args .pos .0) (c .before .before .before .before .before .before .before .args .f .width) (c .before .before .before .oidl .ensures) (k .below) (omega arith) _ (k .rule) (k .fits .ids) (c .part .ensures)
+
+pub id-at-spec : {M : Type 1} → statement M
+id-at-spec =
+    tie.close
+    (tie.spec
+    (λ c κs. search needs)
+    (λ c. search needs)
+    (λ c. search needs)
+    (λ c. search needs)
+    returns
+    oidl-requires
+    (λ c. search needs)
+    mul-part
+    (λ c κs. search needs)
+    returns-2)

@@ -1,0 +1,14 @@
+use native.Mathlib.Omega.{arith}
+use Rattle.words.proofs.Parts.{records-in}
+use borrow.Author.Needs.{needs}
+use Rattle.access.proofs.oidl.Statement.{statement}
+use Rattle.access.proofs.oidl.Tie as tie
+
+returns : tie.Need-returns
+returns c = records-in _ _ (c .before .before .before .args .f .oidl) (c .before .before .before .args .f .commits) (c .before .before .before .args .f .width) (c .before .before .before .pre .ids) (c .part .ensures)
+
+pub oidl-spec : {M : Type 1} → statement M
+oidl-spec = tie.close (tie.spec
+    (λ c. search needs)
+    (λ c κs. search needs)
+    returns)

@@ -1,0 +1,237 @@
+-- The walk over a commit's parents: the ways through a step, that the steps followed to the end are the walk, and that they end.
+use Prim.Native.Nat.{ℕ, zero, suc, _+_, _-_, _*_, _/_, _≤_, _<_}
+use mathlib.Core.List.{List}
+use mathlib.Core.Bool.{Bool, true, false, not}
+use mathlib.Core.Path.{_≡_, refl, sym, ap, ap₂, subst, _∙_}
+use mathlib.Core.Logic.{⊎-elim}
+use native.Mathlib.Omega.{arith}
+use lib.Dec.{ltb, leb, lit<}
+use lib.ListN.{length}
+use borrow.Author.Tests.{le-leb, leb-false, ltb-false}
+use Rattle.types.specs.Refusals.{refusal}
+use Rattle.types.specs.declared.graph.Position.{Position}
+use Rattle.words.specs.Big.{be}
+use Rattle.words.specs.First.{_if_else_}
+use Rattle.words.proofs.Numbers.{le-or-lt}
+use Rattle.words.proofs.Rows.{hit, miss, pass}
+use Rattle.chunk.specs.Index.{absent}
+use Rattle.file.specs.Fits.{askRule, edgePart}
+use Rattle.commit.specs.Commits.{extraOf, rowOf}
+use Rattle.commit.specs.Walks.{stop, done, onward, edgeRule, extraNext, refuseNext, edgeNext, secondNext, aloneNext, firstNext, nextOf, Walked, ends, parent, extraWalk, refuseWalk, edgeFrom, wordsIn, edgeWalk, secondWalk, aloneWalk, firstWalk, restOf, counted, countFrom, stepBy, refusedStep, refuseStep, stepOf, countOf, totalBy, refuseTotal, totalOf}
+use Rattle.file.specs.declared.File.{File}
+use Rattle.commit.specs.declared.parents.Step.{Step}
+use Rattle.commit.specs.declared.parents.Total.{Total}
+use Rattle.commit.specs.declared.parents.Total.the-variants.{Refused as Short}
+use Rattle.commit.specs.declared.ParentEdge.{ParentEdge}
+use Rattle.commit.specs.declared.ParentEdge.the-variants.{None, GraphPosition, ExtraEdgeIndex}
+use Rattle.commit.specs.declared.ExtraEdge.{ExtraEdge}
+use Rattle.commit.specs.declared.ExtraEdge.the-variants.{Internal, Last}
+use Rattle.commit.specs.declared.parents.Phase.{Phase}
+use Rattle.commit.specs.declared.parents.Phase.the-variants.{First, Second, Edge, Exhausted}
+use Rattle.commit.specs.declared.parents.Met.{Met}
+use Rattle.commit.specs.declared.parents.Met.the-variants.{Parent, Refused, End}
+use Rattle.commit.specs.declared.parents.Parent.{Parent as Ancestor}
+use Rattle.commit.specs.declared.parents.Next.{Next}
+use Rattle.commit.specs.declared.parents.Counted.{Counted}
+use Rattle.commit.specs.declared.parents.Counted.the-variants.{Count, Refused as Stopped}
+
+refuse-some : (n : ℕ) (rest : Next) → 0 < n → stop n ≡ refuseNext n rest
+unfolding refuseNext
+refuse-some zero rest h = absurd (omega arith)
+refuse-some (suc n) rest h = refl
+
+-- the ways through an EDGE number: m is what its rule said
+module _ (t : Bool) (e : List ℕ) (k m : ℕ) (d : m ≡ edgeRule t e k) where
+  pub edge-refused : 0 < m → stop m ≡ edgeNext t e k
+  unfolding edgeNext
+  edge-refused h = rw (← d) (refuse-some m _ h)
+
+  pub edge-there : m ≤ 0 → 4 * k + 4 ≤ length e
+  unfolding edgeRule
+  edge-there h =
+      let z : edgeRule t e k ≡ 0 = omega arith in
+      let p1 = pass 52 _ _ (lit< tt) z in
+      let p2 = pass 53 _ _ (lit< tt) (p1 .1) in
+      let p3 = pass 54 _ _ (lit< tt) (p2 .1) in
+      ltb-false (length e) (4 * k + 4) (p3 .0)
+
+  pub edge-goes : m ≤ 0 → (w : ℕ) → w ≡ be 4 e (4 * k) → (x v : ExtraEdge) → x ≡ extraOf w → x ≡ v → extraNext v k ≡ edgeNext t e k
+  unfolding edgeNext refuseNext
+  edge-goes h w q x v p g =
+      let z : edgeRule t e k ≡ 0 = omega arith in
+      rw (z, ← q) (ap (λ (y : ExtraEdge). extraNext y k) (sym g ∙ p))
+
+-- what a step meets is followed by what is left at the phase after it
+unfoldable pub followMet : Met → Walked → Walked
+followMet (Parent q) rest = parent (q .position .0) rest
+followMet (Refused r) rest = ends r
+followMet End rest = ends 0
+
+abbrev pub follow : Next → (Phase → Walked) → Walked
+follow x rest = followMet (x .met) (rest (x .phase))
+
+module _ (a b : ParentEdge) (t : Bool) (e : List ℕ) where
+  extra-follow : (x : ExtraEdge) (k : ℕ) → extraWalk x (edgeWalk t e (k + 1)) ≡ follow (extraNext x k) (restOf a b t e)
+  unfolding extraWalk extraNext followMet restOf
+  extra-follow (Last p) k = refl
+  extra-follow (Internal p) k = refl
+
+  refuse-follow : (n : ℕ) (x : ExtraEdge) (k : ℕ)
+      → refuseWalk n (extraWalk x (edgeWalk t e (k + 1))) ≡ follow (refuseNext n (extraNext x k)) (restOf a b t e)
+  unfolding refuseWalk refuseNext followMet
+  refuse-follow zero x k = extra-follow x k
+  refuse-follow (suc n) x k = refl
+
+  -- past the last word the rule refuses
+  past-rule : (k : ℕ) → wordsIn e ≤ k → 0 < edgeRule t e k
+  unfolding edgeRule _if_else_
+  past-rule k h = go t
+    where
+      go : (u : Bool) → 0 < (52 if not u else 53 if leb (length e) (4 * k) else 54 if ltb (length e) (4 * k + 4) else 0)
+      go true = rw (le-leb (length e) (4 * k) (omega arith)) (omega arith)
+      go false = omega arith
+
+  past-follow : (n : ℕ) (rest : Next) → 0 < n → ends n ≡ follow (refuseNext n rest) (restOf a b t e)
+  unfolding refuseNext followMet
+  past-follow zero rest h = absurd (omega arith)
+  past-follow (suc n) rest h = refl
+
+  edge-follow : (k : ℕ) → edgeWalk t e k ≡ follow (edgeNext t e k) (restOf a b t e)
+  unfolding edgeWalk edgeFrom edgeNext
+  edge-follow k = go (wordsIn e - k) refl
+    where
+      go : (left : ℕ) → wordsIn e - k ≡ left
+          → edgeFrom t e left k ≡ follow (refuseNext (edgeRule t e k) (extraNext (extraOf (be 4 e (4 * k))) k)) (restOf a b t e)
+      go zero q = past-follow (edgeRule t e k) _ (past-rule k (omega arith))
+      go (suc left) q =
+          let d : wordsIn e - (k + 1) ≡ left = omega arith in
+          rw (← d) (refuse-follow (edgeRule t e k) (extraOf (be 4 e (4 * k))) k)
+
+  second-follow : (x : ParentEdge) → secondWalk t e x ≡ follow (secondNext t e x) (restOf a b t e)
+  unfolding secondWalk secondNext followMet restOf
+  second-follow None = refl
+  second-follow (GraphPosition p) = refl
+  second-follow (ExtraEdgeIndex k) = edge-follow k
+
+  alone-follow : (x : ParentEdge) → aloneWalk x ≡ follow (aloneNext x) (restOf a b t e)
+  unfolding aloneWalk aloneNext followMet
+  alone-follow None = refl
+  alone-follow (GraphPosition p) = refl
+  alone-follow (ExtraEdgeIndex k) = refl
+
+  first-follow : (x : ParentEdge) → firstWalk x b t e ≡ follow (firstNext x b) (restOf a b t e)
+  unfolding firstWalk firstNext followMet restOf
+  first-follow None = alone-follow b
+  first-follow (GraphPosition p) = refl
+  first-follow (ExtraEdgeIndex k) = refl
+
+  -- a step binds every phase: what is left is what the step meets, and what is left after it
+  pub rest-follow : (s : Phase) → restOf a b t e s ≡ follow (nextOf a b t e s) (restOf a b t e)
+  unfolding restOf nextOf followMet
+  rest-follow First = first-follow a
+  rest-follow Second = second-follow b
+  rest-follow (Edge k) = edge-follow k
+  rest-follow Exhausted = refl
+
+-- how many steps may be left at a phase
+unfoldable pub mostFrom : List ℕ → Phase → ℕ
+mostFrom e First = wordsIn e + 3
+mostFrom e Second = wordsIn e + 2
+mostFrom e (Edge k) = wordsIn e - k + 1
+mostFrom e Exhausted = 0
+
+-- what a step says of itself: a parent is met with fewer steps left than n, and a refusal has a number
+unfoldable pub Fair : List ℕ → ℕ → Met → Phase → Type 0
+Fair e n (Parent q) s = mostFrom e s < n
+Fair e n (Refused r) s = 0 < r
+Fair e n End s = Unit {0}
+
+module _ (t : Bool) (e : List ℕ) where
+  extra-fair : (x : ExtraEdge) (k n : ℕ) → k < wordsIn e → wordsIn e - k + 1 ≤ n → Fair e n (extraNext x k .met) (extraNext x k .phase)
+  unfolding extraNext Fair mostFrom
+  extra-fair (Last p) k n h g = omega arith
+  extra-fair (Internal p) k n h g = omega arith
+
+  edge-fair : (k n : ℕ) → wordsIn e - k + 1 ≤ n → Fair e n (edgeNext t e k .met) (edgeNext t e k .phase)
+  unfolding edgeNext refuseNext Fair
+  edge-fair k n g = go (edgeRule t e k) refl
+    where
+      go : (m : ℕ) → edgeRule t e k ≡ m
+          → Fair e n (refuseNext m (extraNext (extraOf (be 4 e (4 * k))) k) .met) (refuseNext m (extraNext (extraOf (be 4 e (4 * k))) k) .phase)
+      go zero q = let h : 4 * k + 4 ≤ length e = edge-there t e k 0 (sym q) (omega arith) in extra-fair (extraOf (be 4 e (4 * k))) k n (omega arith) g
+      go (suc m) q = omega arith
+
+  pub next-fair : (a b : ParentEdge) (s : Phase) → Fair e (mostFrom e s) (nextOf a b t e s .met) (nextOf a b t e s .phase)
+  unfolding nextOf Fair mostFrom firstNext aloneNext secondNext
+  next-fair None None First = tt
+  next-fair None (GraphPosition q) First = omega arith
+  next-fair None (ExtraEdgeIndex j) First = omega arith
+  next-fair (GraphPosition p) b First = omega arith
+  next-fair (ExtraEdgeIndex k) b First = omega arith
+  next-fair a None Second = tt
+  next-fair a (GraphPosition q) Second = omega arith
+  next-fair a (ExtraEdgeIndex k) Second = edge-fair k (wordsIn e + 2) (omega arith)
+  next-fair a b (Edge k) = edge-fair k (wordsIn e - k + 1) (omega arith)
+  next-fair a b Exhausted = tt
+
+-- a turn of a count: x is what the step gave at phase s
+module _ (a b : ParentEdge) (t : Bool) (e : List ℕ) (s : Phase) (x : Next) (d : x ≡ nextOf a b t e s) where
+  fair : Fair e (mostFrom e s) (x .met) (x .phase)
+  fair = subst (λ (y : Next). Fair e (mostFrom e s) (y .met) (y .phase)) (sym d) (next-fair t e a b s)
+
+  rest : restOf a b t e s ≡ follow x (restOf a b t e)
+  rest = rest-follow a b t e s ∙ ap (λ (y : Next). follow y (restOf a b t e)) (sym d)
+
+  module _ (n : ℕ) where
+    named : (r : ℕ) → 0 < r → Stopped r ≡ counted r n
+    unfolding counted
+    named zero h = absurd (omega arith)
+    named (suc r) h = refl
+
+    pub count-next : (q : Ancestor) → x .met ≡ Parent q → countFrom n (restOf a b t e s) ≡ countFrom (n + 1) (restOf a b t e (x .phase))
+    unfolding countFrom followMet
+    count-next q h = ap (countFrom n) rest ∙ rw h
+
+    pub count-stop : (r : ℕ) → x .met ≡ Refused r → Stopped r ≡ countFrom n (restOf a b t e s)
+    unfolding countFrom followMet Fair
+    count-stop r h = named r (subst (λ (m : Met). Fair e (mostFrom e s) m (x .phase)) h fair) ∙ sym (ap (countFrom n) rest ∙ rw h)
+
+    pub count-end : x .met ≡ End → Count n ≡ countFrom n (restOf a b t e s)
+    unfolding countFrom followMet counted
+    count-end h = sym (ap (countFrom n) rest ∙ rw h)
+
+  pub next-less : (q : Ancestor) → x .met ≡ Parent q → mostFrom e (x .phase) < mostFrom e s
+  unfolding Fair
+  next-less q h = subst (λ (m : Met). Fair e (mostFrom e s) m (x .phase)) h fair
+
+-- a step of a file's commit: m is what the question's rule said
+refuse-step : (m : ℕ) (rest : Step) → 0 < m → refusedStep m ≡ refuseStep m rest
+unfolding refuseStep
+refuse-step zero rest h = absurd (omega arith)
+refuse-step (suc m) rest h = refl
+
+module _ (l : List ℕ) (f : File) (i : ℕ) (s : Phase) where
+  pub step-misfit : (m : ℕ) → m ≡ askRule l f (f .commits) i → 0 < m → refusedStep m ≡ stepOf l f i s
+  unfolding stepOf
+  step-misfit m e h = rw (← e) (refuse-step m _ h)
+
+  pub step-plain : askRule l f (f .commits) i ≡ 0
+      → stepBy i (nextOf (rowOf l f i .first) (rowOf l f i .second) (not (absent (f .edge))) (edgePart l f) s) ≡ stepOf l f i s
+  unfolding stepOf refuseStep
+  step-plain e = rw e
+
+-- the number of its parents
+refuse-total : (m : ℕ) (rest : Total) → 0 < m → Short (refusal m 0) ≡ refuseTotal m rest
+unfolding refuseTotal
+refuse-total zero rest h = absurd (omega arith)
+refuse-total (suc m) rest h = refl
+
+module _ (l : List ℕ) (f : File) (i : ℕ) where
+  pub total-misfit : (m : ℕ) → m ≡ askRule l f (f .commits) i → 0 < m → Short (refusal m 0) ≡ totalOf l f i
+  unfolding totalOf
+  total-misfit m e h = rw (← e) (refuse-total m _ h)
+
+  pub total-plain : askRule l f (f .commits) i ≡ 0
+      → (x v : Counted) → x ≡ countOf (rowOf l f i .first) (rowOf l f i .second) (not (absent (f .edge))) (edgePart l f) → x ≡ v → totalBy i v ≡ totalOf l f i
+  unfolding totalOf refuseTotal
+  total-plain e x v p q = rw e (ap (totalBy i) (sym q ∙ p))

@@ -1,0 +1,58 @@
+use Prim.Native.Nat.{_+_, _*_, _≤_}
+use mathlib.Core.Path.{_≡_, ap, _∙_}
+use native.Mathlib.Omega.{arith}
+use lib.ListN.{length}
+use denote.Ref.{now}
+use Rattle.commit.specs.declared.Asked.the-variants.{Commit as Is, Refused}
+use Rattle.file.proofs.Fitting.{zero-of}
+use Rattle.commit.proofs.Words.{row-there, commit-out, commit-in}
+use borrow.Author.Needs.{needs}
+use Rattle.commit.proofs.commit_in.Statement.{statement}
+use Rattle.commit.proofs.commit_in.Tie as tie
+
+-- the row is there
+there : (c : tie.Else1) → (c .before .before .before .args .w ≡ 20) × (c .before .before .before .args .pos .0 * (c .before .before .before .args .w + 16) + (c .before .before .before .args .w + 16) ≤ length (now (c .before .before .before .args .cdat)))
+there c = row-there (c .before .before .before .args .w) (length (now (c .before .before .before .args .cdat))) (c .before .before .before .args .pos .0) (zero-of (c .before .row-rule .ensures) (c .if1 .left))
+
+returns : tie.Need-returns
+returns c = ap Refused (c .at .ensures) ∙ commit-out _ _ _ _ (c .before .before .row-rule .ensures) (c .before .if1 .taken)
+
+add-fields : tie.Need-add-fields
+add-fields c = omega (arith, there c)
+
+mul-fields : tie.Need-mul-fields
+mul-fields c = omega (arith, there c)
+
+add-fields-2 : tie.Need-add-fields-2
+add-fields-2 c = omega (arith, there c)
+
+fields-requires : tie.Need-fields-requires
+fields-requires c κs = omega (arith, there c)
+
+returns-2 : tie.Need-returns-2
+returns-2 c = ap Is (c .fields .ensures) ∙ commit-in _ _ _ _ (c .before .before .row-rule .ensures) (c .before .if1 .left)
+
+pub commit-in-spec : {M : Type 1} → statement M
+commit-in-spec =
+    tie.close
+    (tie.spec
+    (λ
+    c
+    κs.
+    search
+    needs)
+    (λ
+    c
+    κs.
+    search
+    needs)
+    returns
+    (λ
+    c.
+    search
+    needs)
+    add-fields
+    mul-fields
+    add-fields-2
+    fields-requires
+    returns-2)

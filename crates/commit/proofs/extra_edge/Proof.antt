@@ -1,0 +1,14 @@
+use Rattle.commit.proofs.Words.{extra-last, extra-more}
+use Rattle.commit.proofs.extra_edge.Statement.{statement}
+use Rattle.commit.proofs.extra_edge.Tie as tie
+
+returns : tie.Need-returns
+returns c = extra-last _ (c .if1 .taken)
+
+returns-2 : tie.Need-returns-2
+returns-2 c = extra-more _ (c .if1 .left)
+
+pub extra-edge-spec : {M : Type 1} → statement M
+extra-edge-spec = tie.close (tie.spec
+    returns
+    returns-2)

@@ -1,0 +1,73 @@
+use Rattle.commit.specs.Commits.{commitOf}
+use borrow.Author.Needs.{needs}
+use Rattle.commit.proofs.fields.Statement.{statement}
+use Rattle.commit.proofs.fields.Tie as tie
+
+returns : tie.Need-returns
+unfolding commitOf
+returns c =
+    simp (c .be324 .ensures, c .before .be323 .ensures, c .before .before .parent-edge2 .ensures, c .before .before .before .be322 .ensures, c .before .before .before .before .parent-edge .ensures, c .before .before .before .before .before .be32 .ensures)
+
+pub fields-spec : {M : Type 1} → statement M
+fields-spec =
+    tie.close
+    (tie.spec
+    (λ
+    c
+    κs.
+    search
+    needs)
+    (λ
+    c
+    κs.
+    search
+    needs)
+    (λ
+    c.
+    search
+    needs)
+    (λ
+    c
+    κs.
+    search
+    needs)
+    (λ
+    c
+    κs.
+    search
+    needs)
+    (λ
+    c.
+    search
+    needs)
+    (λ
+    c
+    κs.
+    search
+    needs)
+    (λ
+    c.
+    search
+    needs)
+    (λ
+    c
+    κs.
+    search
+    needs)
+    (λ
+    c.
+    search
+    needs)
+    (λ
+    c.
+    search
+    needs)
+    (λ
+    c.
+    search
+    needs)
+    (λ
+    c.
+    search
+    needs)
+    returns)

@@ -1,0 +1,44 @@
+use Prim.Native.Nat.{ℕ, _+_, _*_, _≤_}
+use mathlib.Core.List.{List}
+use mathlib.Core.Path.{ap, _∙_}
+use native.Mathlib.Omega.{arith}
+use lib.ListN.{length}
+use denote.Ref.{now}
+use Rattle.commit.specs.Commits.{commitOf}
+use Rattle.commit.proofs.Words.{fields-room}
+use borrow.Author.Needs.{needs}
+use Rattle.commit.proofs.row_at.Statement.{statement}
+use Rattle.commit.proofs.row_at.Tie as tie
+
+-- the row's fields lie in the part
+room : (c : tie.After-cdat) → c .before .before .args .i * (c .before .before .args .f .width + 16) + c .before .before .args .f .width + 16 ≤ length (now (c .cdat .result))
+room c = let z = c .before .before in fields-room (now (z .args .s)) (now (c .cdat .result)) (z .args .f) (z .args .i) (z .pre .0) (c .cdat .ensures .bytes) (z .pre .1)
+
+mul-fields : tie.Need-mul-fields
+mul-fields c = omega (arith, room c)
+
+add-fields-2 : tie.Need-add-fields-2
+add-fields-2 c = omega (arith, room c)
+
+fields-requires : tie.Need-fields-requires
+fields-requires c κs = omega (arith, room c)
+
+returns : tie.Need-returns
+returns c = c .fields .ensures ∙ ap (λ (p : List ℕ). commitOf p (c .before .before .before .args .i * (c .before .before .before .args .f .width + 16) + c .before .before .before .args .f .width)) (c .before .cdat .ensures .bytes)
+
+pub row-at-spec : {M : Type 1} → statement M
+row-at-spec =
+    tie.close (tie.spec
+    (λ
+    c
+    κs.
+    search
+    needs)
+    (λ
+    c.
+    search
+    needs)
+    mul-fields
+    add-fields-2
+    fields-requires
+    returns)

@@ -1,0 +1,75 @@
+-- Commits: gitformat-commit-graph's "Commit Data" (CDAT) and "Extra Edge List" (EDGE).
+use Prim.Native.Nat.{ℕ, zero, suc, _+_, _-_, _*_, _/_, _%_, _^_}
+use mathlib.Core.List.{List}
+use mathlib.Core.Bool.{Bool, true, false, not}
+use lib.ListN.{length}
+use lib.Dec.{ltb, leb, eqb}
+use Rattle.types.specs.Refusals.{refusal}
+use Rattle.words.specs.Big.{be}
+use Rattle.words.specs.First.{_if_else_}
+use Rattle.file.specs.Fits.{known, askRule, rowsPart}
+use Rattle.file.specs.declared.File.{File}
+use Rattle.commit.specs.declared.Commit.{Commit}
+use Rattle.commit.specs.declared.Asked.{Asked}
+use Rattle.commit.specs.declared.Asked.the-variants.{Commit as Is, Refused}
+use Rattle.commit.specs.declared.ParentEdge.{ParentEdge}
+use Rattle.commit.specs.declared.ParentEdge.the-variants.{None, GraphPosition, ExtraEdgeIndex}
+use Rattle.commit.specs.declared.ExtraEdge.{ExtraEdge}
+use Rattle.commit.specs.declared.ExtraEdge.the-variants.{Internal, Last}
+
+-- a parent word
+unfoldable pub pickEdge : Bool → ParentEdge → ParentEdge → ParentEdge
+pickEdge true a b = a
+pickEdge false a b = b
+
+unfoldable pub edgeOf : ℕ → ParentEdge
+edgeOf x =
+    pickEdge (eqb x 0x70000000) None
+    (pickEdge (leb 0x80000000 x) (ExtraEdgeIndex (x - 0x80000000))
+    (GraphPosition (record { 0 = x })))
+
+-- an EDGE word
+unfoldable pub pickExtra : Bool → ExtraEdge → ExtraEdge → ExtraEdge
+pickExtra true a b = a
+pickExtra false a b = b
+
+unfoldable pub extraOf : ℕ → ExtraEdge
+extraOf x = pickExtra (leb 0x80000000 x) (Last (record { 0 = x - 0x80000000 })) (Internal (record { 0 = x }))
+
+-- the generation and the time of two date words
+abbrev pub generationOf : ℕ → ℕ
+generationOf high = high / 4
+
+abbrev pub timeOf : ℕ → ℕ → ℕ
+timeOf high low = high % 4 * 2 ^ 32 + low
+
+-- the fields at a place of the bytes p, behind a row's tree: two parent words and 8 date bytes
+unfoldable pub commitOf : List ℕ → ℕ → Commit
+commitOf p at =
+    record {
+      generation = generationOf (be 4 p (at + 8));
+      time = timeOf (be 4 p (at + 8)) (be 4 p (at + 12));
+      first = edgeOf (be 4 p at);
+      second = edgeOf (be 4 p (at + 4));
+    }
+
+-- row i of n bytes of CDAT
+unfoldable pub rowRule : ℕ → ℕ → ℕ → ℕ
+rowRule w n i =
+    40 if not (known w) else
+    40 if ltb n (i * (w + 16) + (w + 16)) else
+    0
+
+unfoldable pub refuseCommit : ℕ → Asked → Asked
+refuseCommit zero rest = rest
+refuseCommit (suc n) rest = Refused (refusal (suc n) 0)
+
+unfoldable pub commitIn : ℕ → List ℕ → ℕ → Asked
+commitIn w p i = refuseCommit (rowRule w (length p) i) (Is (commitOf p (i * (w + 16) + w)))
+
+-- a commit of a file
+abbrev pub rowOf : List ℕ → File → ℕ → Commit
+rowOf l f i = commitOf (rowsPart l f) (i * (f .width + 16) + f .width)
+
+unfoldable pub commitAt : List ℕ → File → ℕ → Asked
+commitAt l f i = refuseCommit (askRule l f (f .commits) i) (Is (rowOf l f i))

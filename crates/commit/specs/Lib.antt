@@ -1,0 +1,2 @@
+pub mod Commits
+pub mod Walks
