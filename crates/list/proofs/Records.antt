@@ -1,0 +1,136 @@
+-- What the tests of the list say of numbers that were read, and the ways through its rules.
+use Prim.Native.Nat.{ℕ, suc, _+_, _-_, _*_, _/_, _%_, _≤_, _<_}
+use mathlib.Core.List.{List}
+use mathlib.Core.Bool.{Bool, true, false, not, _&&_}
+use mathlib.Core.Path.{_≡_, refl, sym, ap, ap₂, _∙_}
+use native.Mathlib.Omega.{arith}
+use native.Mathlib.Nat.{mul-le-mul, mul-one, add-zero, div-mul-le-self, suc-mul, mul-le-mul-right}
+use lib.Dec.{ltb, eqb, lit<}
+use lib.ListN.{length}
+use denote.Ref.{RefT}
+use borrow.Author.Tests.{lt-ltb, le-ltb, ltb-false, eq-eqb, ne-eqb}
+use Rattle.types.specs.Refusals.{refusal}
+use Rattle.words.specs.Big.{be, number}
+use Rattle.words.specs.First.{_if_else_, first}
+use Rattle.words.specs.Part.{RecordsOf, PartOf}
+use Rattle.words.specs.Sums.{before}
+use Rattle.words.proofs.Numbers.{be-part}
+use Rattle.words.proofs.Parts.{records-in, part-length}
+use Rattle.words.proofs.Rows.{hit, miss, pass}
+use Rattle.words.proofs.Searches.{first-begins, first-stop, first-step, first-ends}
+use Rattle.list.specs.List.{recordsOf, lengthAt, kindAt, claimAt, spareAt, recordRule, flawed, sizeRule, badRecord, listRule, listPlace}
+
+-- a product of two numbers of 32 bits
+pub square : (k z : ℕ) → k < 4294967296 → z < 4294967296 → k * z ≤ 18446744065119617025
+square k z h g = mul-le-mul {n₁ = k} {m₁ = z} {n₂ = 4294967295} {m₂ = 4294967295} (omega arith) (omega arith)
+
+-- the hash bytes of a record as a number
+pub claim-number : (s r : RefT (List ℕ)) (z k : ℕ) → k * z + 28 ≤ length (s .now) → RecordsOf s (k * z + 8) 20 1 r → number (r .now) ≡ claimAt z (s .now) k
+claim-number s r z k h p =
+    let q : PartOf s (k * z + 8) (20 * 1) r = records-in s r (k * z + 8) 20 1 (omega arith) p in
+    let l : length (r .now) ≡ 20 = part-length q (omega arith) in
+    rw l (ap (λ (x : List ℕ). be 20 x 0) (q .bytes) ∙ be-part 20 (s .now) (k * z + 8) 20 0 (omega arith) ∙ rw add-zero)
+
+-- the ways through a record's table: a is its kind, s whether it has stray hash bytes, b its spare bytes
+module _ (z : ℕ) (l : List ℕ) (k a : ℕ) (p : a ≡ kindAt z l k) where
+  pub record-kind : 2 < a → 31 ≡ recordRule z l k
+  unfolding recordRule
+  record-kind h = hit 31 _ _ (lt-ltb 2 (kindAt z l k) (omega arith))
+
+  module _ (h : a ≤ 2) (s : Bool) (q : s ≡ ((not (eqb (kindAt z l k) 1)) && (not (eqb (claimAt z l k) 0)))) where
+    low : ltb 2 (kindAt z l k) ≡ false
+    low = le-ltb 2 (kindAt z l k) (omega arith)
+
+    pub record-stray : s ≡ true → 31 ≡ recordRule z l k
+    unfolding recordRule
+    record-stray e = miss 31 _ _ 31 low (hit 31 _ _ (sym q ∙ e))
+
+    module _ (e : s ≡ false) (b : ℕ) (r : b ≡ spareAt z l k) where
+      pub record-spare : 0 < b → 31 ≡ recordRule z l k
+      unfolding recordRule
+      record-spare g = miss 31 _ _ 31 low (miss 31 _ _ 31 (sym q ∙ e) (hit 31 _ 0 (lt-ltb 0 (spareAt z l k) (omega arith))))
+
+      pub record-fine : b ≤ 0 → 0 ≡ recordRule z l k
+      unfolding recordRule
+      record-fine g = miss 31 _ _ 0 low (miss 31 _ _ 0 (sym q ∙ e) (miss 31 _ 0 0 (le-ltb 0 (spareAt z l k) (omega arith)) refl))
+
+pub flawed-yes : (z : ℕ) (l : List ℕ) (k r : ℕ) → r ≡ recordRule z l k → 0 < r → flawed z l k ≡ true
+unfolding flawed
+flawed-yes z l k r p q = lt-ltb 0 (recordRule z l k) (omega arith)
+
+pub flawed-no : (z : ℕ) (l : List ℕ) (k r : ℕ) → r ≡ recordRule z l k → r ≤ 0 → flawed z l k ≡ false
+unfolding flawed
+flawed-no z l k r p q = le-ltb 0 (recordRule z l k) (omega arith)
+
+pub ruleset searching = (first-begins, first-stop, first-step, first-ends, flawed-yes, flawed-no)
+
+-- record k of n lies in the list
+pub record-room : (k n z m : ℕ) → k < n → 32 ≤ z → n * z ≤ m → k * z + 28 ≤ m
+record-room k n z m h g e = let q : suc k * z ≤ n * z = mul-le-mul-right z h in omega (arith, suc-mul k z)
+
+-- what a size that is not refused gives
+pub few : (z n : ℕ) (l : List ℕ) (m : ℕ) → m ≡ sizeRule z n l → m ≤ 0 → recordsOf z l ≤ 256
+unfolding sizeRule
+few z n l m e h =
+    let y : sizeRule z n l ≡ 0 = omega arith in
+    let p1 = pass 1 _ _ (lit< tt) y in
+    let p2 = pass 30 _ _ (lit< tt) (p1 .1) in
+    let p3 = pass 30 _ _ (lit< tt) (p2 .1) in
+    let p4 = pass 30 _ _ (lit< tt) (p3 .1) in
+    ltb-false 256 (recordsOf z l) (p4 .0)
+
+-- the numbers of a size's table
+row-low : (k : ℕ) (b : Bool) (rest : ℕ) → k < 31 → rest < 31 → (k if b else rest) < 31
+unfolding _if_else_
+row-low k true rest h g = h
+row-low k false rest h g = g
+
+size-low : (z n : ℕ) (l : List ℕ) → sizeRule z n l < 31
+unfolding sizeRule
+size-low z n l = row-low _ _ _ (lit< tt) (row-low _ _ _ (lit< tt) (row-low _ _ _ (lit< tt) (row-low _ _ _ (lit< tt) (lit< tt))))
+
+-- the ways through the list's table: m is what the size's rule said
+module _ (z n : ℕ) (l : List ℕ) (m : ℕ) (e : m ≡ sizeRule z n l) where
+  place-zero : (r : ℕ) → r ≡ listRule z n l → (r ≡ 31 → ⊥) → 0 ≡ listPlace z n l
+  unfolding listPlace
+  place-zero r p q = miss (badRecord z l) _ 0 0 (ne-eqb (listRule z n l) 31 (λ d. q (p ∙ d))) refl
+
+  rule-size : 0 < m → m ≡ listRule z n l
+  unfolding listRule
+  rule-size h = e ∙ hit (sizeRule z n l) _ _ (lt-ltb 0 (sizeRule z n l) (omega arith))
+
+  pub list-size : 0 < m → refusal m 0 ≡ refusal (listRule z n l) (listPlace z n l)
+  list-size h = ap₂ refusal (rule-size h) (place-zero m (rule-size h) (λ d. omega (arith, size-low z n l)))
+
+  module _ (h : m ≤ 0) (c k : ℕ) (p : c ≡ recordsOf z l) (q : k ≡ first (flawed z l) 0 c) where
+    at-record : badRecord z l ≡ k
+    unfolding badRecord
+    at-record = ap (first (flawed z l) 0) (sym p) ∙ sym q
+
+    past : (r rest : ℕ) → r ≡ rest → r ≡ (sizeRule z n l if ltb 0 (sizeRule z n l) else rest)
+    past r rest d = miss (sizeRule z n l) _ rest r (le-ltb 0 (sizeRule z n l) (omega arith)) d
+
+    pub list-record : k < c → refusal 31 k ≡ refusal (listRule z n l) (listPlace z n l)
+    unfolding listRule listPlace
+    list-record g =
+        let y : 31 ≡ listRule z n l = past 31 _ (hit 31 _ _ (rw (at-record, ← p) (lt-ltb k c g))) in
+        ap₂ refusal y (sym at-record ∙ hit (badRecord z l) _ 0 (eq-eqb (listRule z n l) 31 (sym y)))
+
+    module _ (g : c ≤ k) (t : ℕ) (d : t ≡ before (lengthAt z l) c) where
+      row-past : (r rest : ℕ) → r ≡ rest → r ≡ (31 if ltb (badRecord z l) (recordsOf z l) else rest)
+      row-past r rest y = miss 31 _ rest r (rw (at-record, ← p) (le-ltb k c g)) y
+
+      sum-is : t ≡ before (lengthAt z l) (recordsOf z l)
+      sum-is = d ∙ ap (before (lengthAt z l)) p
+
+      pub list-sum : (t ≡ n → ⊥) → refusal 32 0 ≡ refusal (listRule z n l) (listPlace z n l)
+      unfolding listRule
+      list-sum y =
+          let x : 32 ≡ listRule z n l = past 32 _ (row-past 32 _ (hit 32 _ 0 (ap not (ne-eqb _ _ (λ w. y (sum-is ∙ w)))))) in
+          ap₂ refusal x (place-zero 32 x (λ w. omega arith))
+
+      pub list-fine : t ≡ n → refusal 0 0 ≡ refusal (listRule z n l) (listPlace z n l)
+      unfolding listRule
+      list-fine y =
+          let x : 0 ≡ listRule z n l = past 0 _ (row-past 0 _ (miss 32 _ 0 0 (ap not (eq-eqb _ _ (sym sum-is ∙ y))) refl)) in
+          ap₂ refusal x (place-zero 0 x (λ w. omega arith))

@@ -1,0 +1,16 @@
+use mathlib.Core.Path.{refl}
+use native.Mathlib.Omega.{arith}
+use Rattle.list.proofs.Records.{square}
+use Rattle.list.proofs.at.Statement.{statement}
+use Rattle.list.proofs.at.Tie as tie
+
+mul-result : tie.Need-mul-result
+mul-result c = omega (arith, square (c .args .k) (c .args .z) (omega arith) (omega arith))
+
+returns : tie.Need-returns
+returns c = (refl, square (c .args .k) (c .args .z) (omega arith) (omega arith))
+
+pub at-spec : {M : Type 1} → statement M
+at-spec = tie.close (tie.spec
+    mul-result
+    returns)

@@ -1,0 +1,43 @@
+use Prim.Native.Nat.{_-_, _≤_}
+use mathlib.Core.Path.{_≡_}
+use native.Mathlib.Omega.{arith}
+use Rattle.words.specs.First.{first}
+use Rattle.list.specs.List.{flawed}
+use Rattle.list.proofs.Records.{searching, record-room}
+use Rattle.list.proofs.bad_record.Statement.{statement}
+use Rattle.list.proofs.bad_record.Tie as tie
+
+abbrev Inv-loop : tie.InvT-loop
+Inv-loop list z n k₀ k = (k ≤ n) × (first (flawed z list) 0 n ≡ first (flawed z list) k (n - k))
+
+abbrev μ-loop : tie.MeasureT-loop
+μ-loop list z n k₀ k = n - k
+
+loop-holds : tie.Need-loop-holds Inv-loop μ-loop
+loop-holds c = (omega arith, search searching)
+
+record-rule-requires : tie.Need-record-rule-requires Inv-loop μ-loop
+record-rule-requires c κs = record-room _ _ _ _ (c .loop-test .taken) (c .before .before .before .pre .0) (c .before .before .before .pre .1)
+
+returns : tie.Need-returns Inv-loop μ-loop
+returns c = search searching
+
+loop-again : tie.Need-loop-again Inv-loop μ-loop
+loop-again c = (omega arith, search searching)
+
+returns-2 : tie.Need-returns-2 Inv-loop μ-loop
+returns-2 c = search searching
+
+pub bad-record-spec : {M : Type 1} → statement M
+bad-record-spec =
+    tie.close
+    (tie.spec
+    Inv-loop
+    μ-loop
+    loop-holds
+    record-rule-requires
+    returns
+    (λ c. omega arith)
+    (λ c. omega arith)
+    loop-again
+    returns-2)

@@ -1,0 +1,13 @@
+use borrow.Author.Needs.{needs}
+use Rattle.list.proofs.claim_at.Statement.{statement}
+use Rattle.list.proofs.claim_at.Tie as tie
+
+returns : tie.Need-returns
+returns c = rw (c .before .at .ensures .0) at (c .part .ensures)
+
+pub claim-at-spec : {M : Type 1} → statement M
+claim-at-spec = tie.close (tie.spec
+    (λ c κs. search needs)
+    (λ c. search needs)
+    (λ c κs. search needs)
+    returns)

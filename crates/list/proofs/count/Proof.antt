@@ -1,0 +1,13 @@
+use native.Mathlib.Nat.{div-zero}
+use borrow.Author.Needs.{needs}
+use Rattle.list.proofs.count.Statement.{statement}
+use Rattle.list.proofs.count.Tie as tie
+
+returns : tie.Need-returns
+returns c = rw (c .if1 .taken, div-zero)
+
+pub count-spec : {M : Type 1} → statement M
+count-spec = tie.close (tie.spec
+    returns
+    (λ c. search needs)
+    (λ c. search needs))
