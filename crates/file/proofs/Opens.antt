@@ -9,6 +9,8 @@ use native.Mathlib.Nat.{div-add-mod', zero-mul}
 use borrow.Author.Tests.{ltb-true, ltb-false, eqb-true, not-false}
 use lib.Dec.{ltb, eqb, lit<}
 use lib.ListN.{length, take, drop}
+use Rattle.types.specs.Refusals.{refusal}
+use Rattle.types.specs.declared.refusal.Refusal.{Refusal}
 use Rattle.words.specs.Big.{be}
 use Rattle.words.specs.First.{_if_else_, first}
 use Rattle.words.proofs.Searches.{first-none}
@@ -139,3 +141,15 @@ rising l f o =
     let k : Passed true l f = passed true l f o in
     let s : Sized (width l) (bases l) (indexOf l) = sized (width l) (bases l) _ (indexOf l) (k .chunk) in
     rw (← k .is) (record { rises = rw (s .oidf) at (risen (partOf l (indexOf l .oidf)) (k .fan)) })
+
+-- a refusal of opening has a number
+refuse-named : (n p : ℕ) (rest : Opening) (r : Refusal) → refuse n p rest ≡ Refused r → (rest ≡ Refused r → 0 < r .number) → 0 < r .number
+unfolding refuse
+refuse-named zero p rest r e h = h e
+refuse-named (suc n) p rest r e h = let z : refusal (suc n) p ≡ r = cc in let q : suc n ≡ r .number = ap (λ (x : Refusal). x .number) z in omega arith
+
+pub refused-named : (t : Bool) (l : List ℕ) (r : Refusal) → openingBy t l ≡ Refused r → 0 < r .number
+unfolding openingBy chunked fanned
+refused-named t l r e =
+    refuse-named _ _ _ r e (λ e1. refuse-named _ _ _ r e1 (λ e2. refuse-named _ _ _ r e2 (λ e3. refuse-named _ _ _ r e3
+    (λ e4. refuse-named _ _ _ r e4 (λ e5. refuse-named _ _ _ r e5 (λ e6. let z : _≡_ {A = ℕ} 0 1 = cc in absurd (omega arith)))))))

@@ -8,7 +8,7 @@ use native.Mathlib.Nat.{mul-le-mul, mul-one, add-zero, div-mul-le-self, suc-mul,
 use lib.Dec.{ltb, eqb, lit<}
 use lib.ListN.{length}
 use denote.Ref.{RefT}
-use borrow.Author.Tests.{lt-ltb, le-ltb, ltb-false, eq-eqb, ne-eqb}
+use borrow.Author.Tests.{lt-ltb, le-ltb, ltb-true, ltb-false, eq-eqb, ne-eqb, eqb-true, not-false}
 use Rattle.types.specs.Refusals.{refusal}
 use Rattle.words.specs.Big.{be, number}
 use Rattle.words.specs.First.{_if_else_, first}
@@ -79,6 +79,12 @@ few z n l m e h =
     let p4 = pass 30 _ _ (lit< tt) (p3 .1) in
     ltb-false 256 (recordsOf z l) (p4 .0)
 
+pub small : (z n : ℕ) (l : List ℕ) (m : ℕ) → m ≡ sizeRule z n l → m ≤ 0 → n ≤ 1073741824
+unfolding sizeRule
+small z n l m e h =
+    let y : sizeRule z n l ≡ 0 = omega arith in
+    ltb-false 1073741824 n (pass 1 _ _ (lit< tt) y .0)
+
 -- the numbers of a size's table
 row-low : (k : ℕ) (b : Bool) (rest : ℕ) → k < 31 → rest < 31 → (k if b else rest) < 31
 unfolding _if_else_
@@ -134,3 +140,18 @@ module _ (z n : ℕ) (l : List ℕ) (m : ℕ) (e : m ≡ sizeRule z n l) where
       list-fine y =
           let x : 0 ≡ listRule z n l = past 0 _ (row-past 0 _ (miss 32 _ 0 0 (ap not (eq-eqb _ _ (sym sum-is ∙ y))) refl)) in
           ap₂ refusal x (place-zero 0 x (λ w. omega arith))
+
+-- what a list that is not refused gives: the chain's size, the number of records, and that the lengths add up
+pub list-sound : (z n : ℕ) (l : List ℕ) → listRule z n l ≡ 0 → (n ≤ 1073741824) × (recordsOf z l ≤ 256) × (before (lengthAt z l) (recordsOf z l) ≡ n)
+unfolding listRule _if_else_
+list-sound z n l = go (ltb 0 (sizeRule z n l)) refl
+  where
+    go : (t : Bool) → ltb 0 (sizeRule z n l) ≡ t
+        → (sizeRule z n l if t else 31 if ltb (badRecord z l) (recordsOf z l) else 32 if not (eqb (before (lengthAt z l) (recordsOf z l)) n) else 0) ≡ 0
+        → (n ≤ 1073741824) × (recordsOf z l ≤ 256) × (before (lengthAt z l) (recordsOf z l) ≡ n)
+    go true d e = absurd (omega (arith, ltb-true 0 (sizeRule z n l) d))
+    go false d e =
+        let y : sizeRule z n l ≡ 0 = omega (arith, ltb-false 0 (sizeRule z n l) d) in
+        let p1 = pass 31 (ltb (badRecord z l) (recordsOf z l)) (32 if not (eqb (before (lengthAt z l) (recordsOf z l)) n) else 0) (lit< tt) e in
+        let p2 = pass 32 (not (eqb (before (lengthAt z l) (recordsOf z l)) n)) 0 (lit< tt) (p1 .1) in
+        (small z n l 0 (sym y) (omega arith), few z n l 0 (sym y) (omega arith), eqb-true _ _ (not-false _ (p2 .0)))

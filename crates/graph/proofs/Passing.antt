@@ -1,0 +1,176 @@
+-- A pass over a chain's files: where each lies, and how the pass goes on.
+use Prim.Native.Nat.{ℕ, zero, suc, _+_, _-_, _*_, _≤_, _<_}
+use mathlib.Core.List.{List}
+use mathlib.Core.Bool.{Bool, true, false}
+use mathlib.Core.Path.{_≡_, refl, sym, ap, subst, _∙_}
+use mathlib.Core.Logic.{⊎-elim}
+use native.Mathlib.Omega.{arith}
+use native.Mathlib.Nat.{sub-zero, mul-one}
+use lib.Dec.{ltb, leb}
+use lib.ListN.{length, take, drop}
+use denote.Ref.{RefT}
+use borrow.Author.Tests.{lt-ltb, le-ltb, le-leb, lt-leb, eqb-true}
+use Rattle.types.specs.Refusals.{refusal}
+use Rattle.types.specs.declared.refusal.Refusal.{Refusal}
+use Rattle.words.specs.Part.{RecordsOf}
+use Rattle.words.specs.Sums.{before}
+use Rattle.words.proofs.Adds.{before-next, before-lt, before-le}
+use Rattle.words.proofs.Numbers.{le-or-lt}
+use Rattle.words.proofs.Parts.{records-in, length-part}
+use Rattle.list.specs.List.{lengthAt}
+use Rattle.file.specs.Table.{opening}
+use Rattle.file.specs.Facts.{Opened}
+use Rattle.file.specs.declared.File.{File}
+use Rattle.file.specs.declared.Opening.{Opening}
+use Rattle.file.specs.declared.Opening.the-variants.{Open, Refused}
+use Rattle.file.proofs.Opens.{opened, refused-named}
+use Rattle.graph.specs.Chain.{placed, commitsOf, startAt, partAt, openAt, countAt, openOr, openFrom, Listed}
+use Rattle.graph.specs.Passes.{pickSpot, keptOf, Holds, Kept, Surveyed}
+use Rattle.graph.specs.declared.survey.Spot.{Spot}
+use Rattle.graph.specs.declared.survey.Survey.{Survey}
+
+-- the ways through what is kept
+module _ (old : Spot) (g sum next k at : ℕ) (f : File) where
+  pub kept-before : g < sum → old ≡ keptOf old g sum next k at f
+  unfolding keptOf pickSpot
+  kept-before h = rw (lt-ltb g sum h)
+
+  pub kept-after : sum ≤ g → next ≤ g → old ≡ keptOf old g sum next k at f
+  unfolding keptOf pickSpot
+  kept-after h e = rw (le-ltb g sum h, le-leb next g e)
+
+  pub kept-here : sum ≤ g → g < next → _≡_ {A = Spot} (record { found = true; file = k; start = at; pos = g - sum; inner = f }) (keptOf old g sum next k at f)
+  unfolding keptOf pickSpot
+  kept-here h e = rw (le-ltb g sum h, lt-leb next g e)
+
+module _ (z : ℕ) (c l : List ℕ) where
+  -- a file's commits, and how many they can be
+  count-open : (k : ℕ) (f : File) → openAt z c l k ≡ Open f → countAt z c l k ≡ f .commits
+  unfolding countAt commitsOf
+  count-open k f e = rw e
+
+  few-commits : (k : ℕ) (f : File) → openAt z c l k ≡ Open f → f .commits * 36 ≤ length (partAt z c l k)
+  unfolding openAt
+  few-commits k f e =
+      let o : Opened (partAt z c l k) f = opened true (partAt z c l k) f e in
+      let w : f .width ≡ 20 = eqb-true (f .width) 20 (o .known) in
+      let r : f .cdat + f .commits * (f .width + 16) ≤ length (partAt z c l k) = o .fitted .rows in
+      let s : f .cdat + f .commits * (20 + 16) ≤ length (partAt z c l k) = rw w at r in
+      omega arith
+
+  -- one file more is open; a file is not
+  from-open : (k left : ℕ) (f : File) → openAt z c l k ≡ Open f → openFrom z c l k (suc left) ≡ openFrom z c l (k + 1) left
+  unfolding openFrom openOr
+  from-open k left f e = rw e
+
+  from-refused : (k left : ℕ) (r : Refusal) → openAt z c l k ≡ Refused r → openFrom z c l k (suc left) ≡ placed k r
+  unfolding openFrom openOr
+  from-refused k left r e = rw e
+
+  -- what stands when the pass is at file k, which starts at `at`, with sum commits before it
+  pub record Passing (n g k at sum : ℕ) (r : Spot) : Type 0 where
+    pub few : k ≤ n
+    pub place : at ≡ startAt z c l k
+    pub total : sum ≡ before (countAt z c l) k
+    pub small : sum * 36 ≤ at
+    pub rest : openFrom z c l 0 n ≡ openFrom z c l k (n - k)
+    pub kept : Kept z c l g k r
+
+  -- what was opened is file k
+  pub open-is : (k : ℕ) (s : List ℕ) (o v : Opening) → s ≡ partAt z c l k → o ≡ opening s → o ≡ v → openAt z c l k ≡ v
+  unfolding openAt
+  open-is k s o v p q e = ap opening (sym p) ∙ sym q ∙ e
+
+  module _ (n : ℕ) (d : Listed z c l n) where
+    pub file-room : (k : ℕ) → k < n → startAt z c l k + lengthAt z l k ≤ length c
+    file-room k h = omega (arith, before-lt (lengthAt z l) k n h, d .files)
+
+    pub part-long : (k : ℕ) → k < n → length (partAt z c l k) ≡ lengthAt z l k
+    unfolding partAt
+    part-long k h = length-part (startAt z c l k) (lengthAt z l k) c (file-room k h)
+
+    pub pass-begins : (g : ℕ) (r : Spot) → r .found ≡ false → Passing n g 0 0 0 r
+    unfolding before
+    pass-begins g r e =
+        record {
+          few = omega arith;
+          place = refl;
+          total = refl;
+          small = omega arith;
+          rest = rw sub-zero;
+          kept = record { holds = λ y. (let w : _≡_ {A = Bool} true false = sym y ∙ e in let v : _≡_ {A = ℕ} 0 1 = cc in absurd (omega arith)); outside = λ y. omega arith };
+        }
+
+    more : (g k : ℕ) (r : Spot) → Holds z c l g k r → Holds z c l g (k + 1) r
+    more g k r h = record { below = omega (arith, h .below); start = h .start; sum = h .sum; high = h .high; inner = h .inner }
+
+    -- what was said of the first k files holds with one file more
+    module _ (g k at sum : ℕ) (r : Spot) (p : Passing n g k at sum r) (h : k < n) where
+      ahead : n - k ≡ suc (n - (k + 1))
+      ahead = omega arith
+
+      pub pass-refused : (q : Refusal) → openAt z c l k ≡ Refused q
+          → Surveyed z c l n g (record { refusal = placed k q; commits = sum; spot = r })
+      unfolding openAt
+      pass-refused q e =
+          let w : 0 < q .number = refused-named true (partAt z c l k) q e in
+          record {
+            refusal = sym (p .rest ∙ ap (openFrom z c l k) ahead ∙ from-refused k (n - (k + 1)) q e);
+            commits = λ y. absurd (omega arith);
+            kept = λ y. absurd (omega arith);
+          }
+
+      module _ (f : File) (e : openAt z c l k ≡ Open f) where
+        counted : before (countAt z c l) (k + 1) ≡ sum + f .commits
+        counted = before-next (countAt z c l) k ∙ rw (count-open k f e) (omega (arith, p .total))
+
+        keep-step : Kept z c l g (k + 1) (keptOf r g sum (sum + f .commits) k at f)
+        keep-step =
+            ⊎-elim
+            (λ (a : sum ≤ g).
+              ⊎-elim
+              (λ (b : sum + f .commits ≤ g).
+                subst (Kept z c l g (k + 1)) (kept-after r g sum (sum + f .commits) k at f a b)
+                (record { holds = λ y. more g k r (p .kept .holds y); outside = λ y. omega (arith, counted) }))
+              (λ (b : g < sum + f .commits).
+                subst (Kept z c l g (k + 1)) (kept-here r g sum (sum + f .commits) k at f a b)
+                (record {
+                  holds = λ y. record { below = omega arith; start = p .place; sum = omega (arith, p .total); high = rw (count-open k f e) (omega arith); inner = e };
+                  outside = λ y. (let v : _≡_ {A = ℕ} 0 1 = cc in absurd (omega arith));
+                }))
+              (le-or-lt (sum + f .commits) g))
+            (λ (a : g < sum).
+              subst (Kept z c l g (k + 1)) (kept-before r g sum (sum + f .commits) k at f a)
+              (record { holds = λ y. more g k r (p .kept .holds y); outside = λ y. absurd (omega (arith, p .total, p .kept .outside y)) }))
+            (le-or-lt sum g)
+
+        pub pass-next : (m : ℕ) → m ≡ length (partAt z c l k)
+            → Passing n g (k + 1) (at + m) (sum + f .commits) (keptOf r g sum (sum + f .commits) k at f)
+        pass-next m d =
+            record {
+              few = omega arith;
+              place = omega (arith, before-next (lengthAt z l) k, part-long k h, p .place);
+              total = sym counted;
+              small = omega (arith, few-commits k f e, p .small);
+              rest = p .rest ∙ ap (openFrom z c l k) ahead ∙ from-open k (n - (k + 1)) f e;
+              kept = keep-step;
+            }
+
+        -- the sum fits, and so does the next place
+        pub pass-room : (sum + f .commits ≤ 1073741824) × (at + length (partAt z c l k) ≤ 1073741824)
+        pass-room =
+            let a = few-commits k f e in
+            let b = part-long k h in
+            let y = file-room k h in
+            (omega (arith, p .small, p .place, d .most), omega (arith, p .place, d .most))
+
+    pub pass-ends : (g k at sum : ℕ) (r : Spot) → Passing n g k at sum r → n ≤ k → Surveyed z c l n g (record { refusal = refusal 0 0; commits = sum; spot = r })
+    unfolding openFrom
+    pass-ends g k at sum r p h =
+        let q : k ≡ n = omega (arith, p .few) in
+        let y : n - k ≡ 0 = omega arith in
+        record {
+          refusal = sym (p .rest ∙ ap (openFrom z c l k) y);
+          commits = λ w. p .total ∙ ap (before (countAt z c l)) q;
+          kept = λ w. rw q at (p .kept);
+        }

@@ -1,0 +1,101 @@
+-- The chain: document 01, "The chain". c is the chain's bytes, l the list's, and a record has z bytes. Files are functions of their index.
+use Prim.Native.Nat.{ℕ, zero, suc, _+_, _-_, _*_, _≤_, _<_}
+use mathlib.Core.List.{List}
+use mathlib.Core.Bool.{Bool, true, false}
+use mathlib.Core.Path.{_≡_}
+use lib.ListN.{length, take, drop}
+use lib.Dec.{ltb, leb}
+use Rattle.types.specs.Refusals.{refusal}
+use Rattle.types.specs.declared.refusal.Refusal.{Refusal}
+use Rattle.words.specs.Sums.{before, whichOf, withinOf}
+use Rattle.list.specs.List.{recordsOf, lengthAt, listRule, listPlace}
+use Rattle.file.specs.Table.{opening}
+use Rattle.access.specs.declared.Asking.{Asking}
+use Rattle.access.specs.declared.Asking.the-variants.{Fine, Refused as Met}
+use Rattle.graph.specs.declared.init.Opening.{Opening as Chained}
+use Rattle.graph.specs.declared.init.Opening.the-variants.{Open as Whole, Refused as Not}
+use Rattle.file.specs.declared.Opening.{Opening}
+use Rattle.file.specs.declared.Opening.the-variants.{Open, Refused}
+
+-- the refusal of file k, in place of one file's
+abbrev pub placed : ℕ → Refusal → Refusal
+placed k r = record { number = r .number; file = k; place = r .place }
+
+-- what one file has, once it is opened; nothing where it is refused
+unfoldable pub commitsOf : Opening → ℕ
+commitsOf (Open f) = f .commits
+commitsOf (Refused r) = 0
+
+-- a refusal with a number, else what comes after
+unfoldable pub pickRefusal : Bool → Refusal → Refusal → Refusal
+pickRefusal true a b = a
+pickRefusal false a b = b
+
+unfoldable pub orElse : Refusal → Refusal → Refusal
+orElse a b = pickRefusal (ltb 0 (a .number)) a b
+
+module _ (z : ℕ) (c l : List ℕ) where
+  -- where file k starts, its own bytes, and its opening
+  abbrev pub startAt : ℕ → ℕ
+  startAt k = before (lengthAt z l) k
+
+  unfoldable pub partAt : ℕ → List ℕ
+  partAt k = take (lengthAt z l k) (drop (startAt k) c)
+
+  unfoldable pub openAt : ℕ → Opening
+  openAt k = opening (partAt k)
+
+  -- its commits; its first position is the sum of them over the files before it
+  unfoldable pub countAt : ℕ → ℕ
+  countAt k = commitsOf (openAt k)
+
+  abbrev pub firstAt : ℕ → ℕ
+  firstAt k = before countAt k
+
+  abbrev pub commitsIn : ℕ
+  commitsIn = firstAt (recordsOf z l)
+
+  -- the file of a position, and the position in it
+  abbrev pub fileOf : ℕ → ℕ
+  fileOf g = whichOf countAt (recordsOf z l) g
+
+  abbrev pub posOf : ℕ → ℕ
+  posOf g = withinOf countAt (recordsOf z l) g
+
+  -- each file's opening in order, from file k on; number 0 where all open
+  unfoldable pub openOr : Opening → ℕ → Refusal → Refusal
+  openOr (Open f) k rest = rest
+  openOr (Refused r) k rest = placed k r
+
+  unfoldable pub openFrom : ℕ → ℕ → Refusal
+  openFrom k zero = refusal 0 0
+  openFrom k (suc left) = openOr (openAt k) k (openFrom (k + 1) left)
+
+  -- opening a chain: 1, 30, 31, 32, then each file's opening
+  unfoldable pub opened : Refusal
+  opened = orElse (refusal (listRule z (length c) l) (listPlace z (length c) l)) (openFrom 0 (recordsOf z l))
+
+  -- a question on a position: then 40
+  unfoldable pub asked : ℕ → Refusal
+  asked g = orElse opened (pickRefusal (leb commitsIn g) (refusal 40 0) opened)
+
+-- what opening a chain answers, and which refusal a question for a part meets
+unfoldable pub pickOpening : Bool → Chained → Chained → Chained
+pickOpening true a b = a
+pickOpening false a b = b
+
+unfoldable pub openingOf : ℕ → List ℕ → List ℕ → Chained
+openingOf z c l = pickOpening (ltb 0 (opened z c l .number)) (Not (opened z c l)) (Whole (commitsIn z c l))
+
+unfoldable pub pickAsking : Bool → Asking → Asking → Asking
+pickAsking true a b = a
+pickAsking false a b = b
+
+unfoldable pub askingBy : Refusal → Asking
+askingBy r = pickAsking (ltb 0 (r .number)) (Met r) Fine
+
+-- a list that is not refused: n records, whose files lie in the chain
+pub record Listed (z : ℕ) (c l : List ℕ) (n : ℕ) : Type 0 where
+  pub few : n ≤ 256
+  pub files : before (lengthAt z l) n ≡ length c
+  pub most : length c ≤ 1073741824
