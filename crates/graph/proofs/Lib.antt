@@ -1,2 +1,3 @@
 pub mod Passing
 pub mod Views
+pub mod Spots

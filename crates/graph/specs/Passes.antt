@@ -7,8 +7,10 @@ use lib.Dec.{ltb, leb}
 use Rattle.file.specs.declared.File.{File}
 use Rattle.file.specs.declared.Opening.the-variants.{Open}
 use Rattle.words.specs.Sums.{before}
-use Rattle.graph.specs.Chain.{startAt, openAt, countAt, openFrom, opened, asked, commitsIn, Listed}
-use Rattle.list.specs.List.{recordsOf}
+use Rattle.graph.specs.Chain.{startAt, partAt, openAt, countAt, openFrom, opened, asked, commitsIn, Listed}
+use Rattle.list.specs.List.{recordsOf, lengthAt}
+use Rattle.words.specs.Part.{PartOf}
+use denote.Ref.{RefT}
 use Rattle.graph.specs.declared.survey.Spot.{Spot}
 use Rattle.graph.specs.declared.survey.Survey.{Survey}
 
@@ -52,3 +54,8 @@ pub record Located (z : ℕ) (c l : List ℕ) (g : ℕ) (r : Survey) : Type 0 wh
   pub refusal : r .refusal ≡ asked z c l g
   pub holds : r .refusal .number ≡ 0 → Holds z c l g (recordsOf z l) (r .spot)
   pub listed : r .refusal .number ≡ 0 → Listed z c l (recordsOf z l)
+
+-- r is the file of a spot, as a part of the chain
+pub record FileOf (z : ℕ) (c : RefT (List ℕ)) (l : List ℕ) (s : Spot) (r : RefT (List ℕ)) : Type 0 where
+  pub bytes : r .now ≡ partAt z (c .now) l (s .file)
+  pub place : PartOf c (s .start) (lengthAt z l (s .file)) r

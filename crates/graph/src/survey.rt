@@ -12,6 +12,7 @@ ghost use mathlib.Core.Bool.{false};
 ghost use Rattle.graph.specs.Chain.{Listed, placed, partAt};
 ghost use Rattle.graph.specs.Passes.{keptOf, Surveyed};
 ghost use Prim.Native.Nat.{_≤_, _<_};
+ghost use Rattle.words.specs.Part.{PartOf};
 ghost use Rattle.words.specs.Sums.{before};
 ghost use Rattle.list.specs.List.{lengthAt};
 
@@ -84,10 +85,11 @@ fn kept(old: Spot, g: u32, sum: u32, next: u32, k: u32, at: usize, f: File) -> S
 }
 
 // File `k`, which starts at `at`.
-fn file_at<'a, 'b>(chain: &'a [u8], list: &'b [u8], z: u32, n: u32, k: u32, at: usize) -> &'a [u8]
+pub(crate) fn file_at<'a, 'b>(chain: &'a [u8], list: &'b [u8], z: u32, n: u32, k: u32, at: usize) -> &'a [u8]
     requires { ⌜ Listed z (now chain) (now list) n ⌝ }
     requires { ⌜ (k < n) × (at ≡ before (lengthAt z (now list)) k) ⌝ }
-    ensures { λ r. ⌜ now r ≡ partAt z (now (chain .entry)) (now (list .entry)) k ⌝ }
+    ensures bytes { λ r. ⌜ now r ≡ partAt z (now (chain .entry)) (now (list .entry)) k ⌝ }
+    ensures place { λ r. ⌜ PartOf (chain .entry) at (lengthAt z (now (list .entry)) k) r ⌝ }
 {
     part(chain, at, length_at(list, z, k) as usize, 1)
 }

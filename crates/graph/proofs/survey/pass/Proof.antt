@@ -50,7 +50,7 @@ of-file-requires c κs = search needs
 -- src/survey.rt:109:17
 returns : tie.Need-returns Inv-loop μ-loop
 returns c =
-    rw (c .of-file .ensures) (pass-refused (c .before .before .before .before .before .before .before .before .before .before .before .args .z) (now (c .before .before .before .before .before .before .before .before .before .before .before .args .chain)) (now (c .before .before .before .before .before .before .before .before .before .before .before .args .list)) (c .before .before .before .before .before .before .before .before .before .before .before .args .n) (c .before .before .before .before .before .before .before .before .before .before .before .pre) (c .before .before .before .before .before .before .before .before .before .before .before .args .g) (c .before .before .before .before .before .before .before .loop .k) (c .before .before .before .before .before .before .before .loop .at) (c .before .before .before .before .before .before .before .loop .sum) (c .before .before .before .before .before .before .before .loop .spot) (c .before .before .before .before .before .before .before .loop .inv) (c .before .before .before .before .before .before .loop-test .taken) _ (open-is (c .before .before .before .before .before .before .before .before .before .before .before .args .z) (now (c .before .before .before .before .before .before .before .before .before .before .before .args .chain)) (now (c .before .before .before .before .before .before .before .before .before .before .before .args .list)) (c .before .before .before .before .before .before .before .loop .k) _ _ _ (c .before .before .before .before .before .file-at .ensures) (c .before .before .before .before .«open» .ensures) (c .before .before .o .given .1)))
+    rw (c .of-file .ensures) (pass-refused (c .before .before .before .before .before .before .before .before .before .before .before .args .z) (now (c .before .before .before .before .before .before .before .before .before .before .before .args .chain)) (now (c .before .before .before .before .before .before .before .before .before .before .before .args .list)) (c .before .before .before .before .before .before .before .before .before .before .before .args .n) (c .before .before .before .before .before .before .before .before .before .before .before .pre) (c .before .before .before .before .before .before .before .before .before .before .before .args .g) (c .before .before .before .before .before .before .before .loop .k) (c .before .before .before .before .before .before .before .loop .at) (c .before .before .before .before .before .before .before .loop .sum) (c .before .before .before .before .before .before .before .loop .spot) (c .before .before .before .before .before .before .before .loop .inv) (c .before .before .before .before .before .before .loop-test .taken) _ (open-is (c .before .before .before .before .before .before .before .before .before .before .before .args .z) (now (c .before .before .before .before .before .before .before .before .before .before .before .args .chain)) (now (c .before .before .before .before .before .before .before .before .before .before .before .args .list)) (c .before .before .before .before .before .before .before .loop .k) _ _ _ (c .before .before .before .before .before .file-at .ensures .0) (c .before .before .before .before .«open» .ensures) (c .before .before .o .given .1)))
 
 -- src/survey.rt:115:27
 enum-known-o-2 : tie.Need-enum-known-o-2 Inv-loop μ-loop
@@ -58,7 +58,7 @@ enum-known-o-2 c = search needs
 
 -- src/survey.rt:116:28
 add-next : tie.Need-add-next Inv-loop μ-loop
-add-next c = omega (arith, pass-room (c .before .before .before .before .before .before .before .before .before .before .before .args .z) (now (c .before .before .before .before .before .before .before .before .before .before .before .args .chain)) (now (c .before .before .before .before .before .before .before .before .before .before .before .args .list)) (c .before .before .before .before .before .before .before .before .before .before .before .args .n) (c .before .before .before .before .before .before .before .before .before .before .before .pre) (c .before .before .before .before .before .before .before .before .before .before .before .args .g) (c .before .before .before .before .before .before .before .loop .k) (c .before .before .before .before .before .before .before .loop .at) (c .before .before .before .before .before .before .before .loop .sum) (c .before .before .before .before .before .before .before .loop .spot) (c .before .before .before .before .before .before .before .loop .inv) (c .before .before .before .before .before .before .loop-test .taken) _ (open-is (c .before .before .before .before .before .before .before .before .before .before .before .args .z) (now (c .before .before .before .before .before .before .before .before .before .before .before .args .chain)) (now (c .before .before .before .before .before .before .before .before .before .before .before .args .list)) (c .before .before .before .before .before .before .before .loop .k) _ _ _ (c .before .before .before .before .before .file-at .ensures) (c .before .before .before .before .«open» .ensures) (c .before .before .o2 .given .1)))
+add-next c = omega (arith, pass-room (c .before .before .before .before .before .before .before .before .before .before .before .args .z) (now (c .before .before .before .before .before .before .before .before .before .before .before .args .chain)) (now (c .before .before .before .before .before .before .before .before .before .before .before .args .list)) (c .before .before .before .before .before .before .before .before .before .before .before .args .n) (c .before .before .before .before .before .before .before .before .before .before .before .pre) (c .before .before .before .before .before .before .before .before .before .before .before .args .g) (c .before .before .before .before .before .before .before .loop .k) (c .before .before .before .before .before .before .before .loop .at) (c .before .before .before .before .before .before .before .loop .sum) (c .before .before .before .before .before .before .before .loop .spot) (c .before .before .before .before .before .before .before .loop .inv) (c .before .before .before .before .before .before .loop-test .taken) _ (open-is (c .before .before .before .before .before .before .before .before .before .before .before .args .z) (now (c .before .before .before .before .before .before .before .before .before .before .before .args .chain)) (now (c .before .before .before .before .before .before .before .before .before .before .before .args .list)) (c .before .before .before .before .before .before .before .loop .k) _ _ _ (c .before .before .before .before .before .file-at .ensures .0) (c .before .before .before .before .«open» .ensures) (c .before .before .o2 .given .1)))
 
 -- src/survey.rt:117:21
 kept-requires : tie.Need-kept-requires Inv-loop μ-loop
@@ -66,7 +66,7 @@ kept-requires c κs = search needs
 
 -- src/survey.rt:120:17
 add-at : tie.Need-add-at Inv-loop μ-loop
-add-at c = omega (arith, pass-room (c .before .before .before .before .before .before .before .before .before .before .before .before .args .z) (now (c .before .before .before .before .before .before .before .before .before .before .before .before .args .chain)) (now (c .before .before .before .before .before .before .before .before .before .before .before .before .args .list)) (c .before .before .before .before .before .before .before .before .before .before .before .before .args .n) (c .before .before .before .before .before .before .before .before .before .before .before .before .pre) (c .before .before .before .before .before .before .before .before .before .before .before .before .args .g) (c .before .before .before .before .before .before .before .before .loop .k) (c .before .before .before .before .before .before .before .before .loop .at) (c .before .before .before .before .before .before .before .before .loop .sum) (c .before .before .before .before .before .before .before .before .loop .spot) (c .before .before .before .before .before .before .before .before .loop .inv) (c .before .before .before .before .before .before .before .loop-test .taken) _ (open-is (c .before .before .before .before .before .before .before .before .before .before .before .before .args .z) (now (c .before .before .before .before .before .before .before .before .before .before .before .before .args .chain)) (now (c .before .before .before .before .before .before .before .before .before .before .before .before .args .list)) (c .before .before .before .before .before .before .before .before .loop .k) _ _ _ (c .before .before .before .before .before .before .file-at .ensures) (c .before .before .before .before .before .«open» .ensures) (c .before .before .before .o2 .given .1)), ap length (c .before .before .before .before .before .before .file-at .ensures))
+add-at c = omega (arith, pass-room (c .before .before .before .before .before .before .before .before .before .before .before .before .args .z) (now (c .before .before .before .before .before .before .before .before .before .before .before .before .args .chain)) (now (c .before .before .before .before .before .before .before .before .before .before .before .before .args .list)) (c .before .before .before .before .before .before .before .before .before .before .before .before .args .n) (c .before .before .before .before .before .before .before .before .before .before .before .before .pre) (c .before .before .before .before .before .before .before .before .before .before .before .before .args .g) (c .before .before .before .before .before .before .before .before .loop .k) (c .before .before .before .before .before .before .before .before .loop .at) (c .before .before .before .before .before .before .before .before .loop .sum) (c .before .before .before .before .before .before .before .before .loop .spot) (c .before .before .before .before .before .before .before .before .loop .inv) (c .before .before .before .before .before .before .before .loop-test .taken) _ (open-is (c .before .before .before .before .before .before .before .before .before .before .before .before .args .z) (now (c .before .before .before .before .before .before .before .before .before .before .before .before .args .chain)) (now (c .before .before .before .before .before .before .before .before .before .before .before .before .args .list)) (c .before .before .before .before .before .before .before .before .loop .k) _ _ _ (c .before .before .before .before .before .before .file-at .ensures .0) (c .before .before .before .before .before .«open» .ensures) (c .before .before .before .o2 .given .1)), ap length (c .before .before .before .before .before .before .file-at .ensures .0))
 
 -- src/survey.rt:121:17
 add-k : tie.Need-add-k Inv-loop μ-loop
@@ -79,7 +79,7 @@ loop-less c = omega (arith, c .before .before .before .before .before .before .b
 -- src/survey.rt:104:5
 loop-again : tie.Need-loop-again Inv-loop μ-loop
 loop-again c =
-    rw (c .kept .ensures) (pass-next (c .before .before .before .before .before .before .before .before .before .before .before .before .args .z) (now (c .before .before .before .before .before .before .before .before .before .before .before .before .args .chain)) (now (c .before .before .before .before .before .before .before .before .before .before .before .before .args .list)) (c .before .before .before .before .before .before .before .before .before .before .before .before .args .n) (c .before .before .before .before .before .before .before .before .before .before .before .before .pre) (c .before .before .before .before .before .before .before .before .before .before .before .before .args .g) (c .before .before .before .before .before .before .before .before .loop .k) (c .before .before .before .before .before .before .before .before .loop .at) (c .before .before .before .before .before .before .before .before .loop .sum) (c .before .before .before .before .before .before .before .before .loop .spot) (c .before .before .before .before .before .before .before .before .loop .inv) (c .before .before .before .before .before .before .before .loop-test .taken) _ (open-is (c .before .before .before .before .before .before .before .before .before .before .before .before .args .z) (now (c .before .before .before .before .before .before .before .before .before .before .before .before .args .chain)) (now (c .before .before .before .before .before .before .before .before .before .before .before .before .args .list)) (c .before .before .before .before .before .before .before .before .loop .k) _ _ _ (c .before .before .before .before .before .before .file-at .ensures) (c .before .before .before .before .before .«open» .ensures) (c .before .before .before .o2 .given .1)) _ (ap length (c .before .before .before .before .before .before .file-at .ensures)))
+    rw (c .kept .ensures) (pass-next (c .before .before .before .before .before .before .before .before .before .before .before .before .args .z) (now (c .before .before .before .before .before .before .before .before .before .before .before .before .args .chain)) (now (c .before .before .before .before .before .before .before .before .before .before .before .before .args .list)) (c .before .before .before .before .before .before .before .before .before .before .before .before .args .n) (c .before .before .before .before .before .before .before .before .before .before .before .before .pre) (c .before .before .before .before .before .before .before .before .before .before .before .before .args .g) (c .before .before .before .before .before .before .before .before .loop .k) (c .before .before .before .before .before .before .before .before .loop .at) (c .before .before .before .before .before .before .before .before .loop .sum) (c .before .before .before .before .before .before .before .before .loop .spot) (c .before .before .before .before .before .before .before .before .loop .inv) (c .before .before .before .before .before .before .before .loop-test .taken) _ (open-is (c .before .before .before .before .before .before .before .before .before .before .before .before .args .z) (now (c .before .before .before .before .before .before .before .before .before .before .before .before .args .chain)) (now (c .before .before .before .before .before .before .before .before .before .before .before .before .args .list)) (c .before .before .before .before .before .before .before .before .loop .k) _ _ _ (c .before .before .before .before .before .before .file-at .ensures .0) (c .before .before .before .before .before .«open» .ensures) (c .before .before .before .o2 .given .1)) _ (ap length (c .before .before .before .before .before .before .file-at .ensures .0)))
 
 -- src/survey.rt:126:18
 at-requires : tie.Need-at-requires Inv-loop μ-loop
