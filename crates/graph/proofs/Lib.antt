@@ -1,3 +1,4 @@
 pub mod Passing
 pub mod Views
 pub mod Spots
+pub mod Steps

@@ -41,10 +41,10 @@ inner-part {s} {p} {x} at n m j w q e h k =
     part-part q y h
 
 module _ (z : ℕ) (c l : List ℕ) (g : ℕ) (r : Spot) (h : Holds z c l g (recordsOf z l) r) where
-  file-is : fileOf z c l g ≡ r .file
+  pub file-is : fileOf z c l g ≡ r .file
   file-is = rw (← h .sum) (which-back (countAt z c l) (recordsOf z l) (r .file) (r .pos) (h .below) (h .high))
 
-  pos-is : posOf z c l g ≡ r .pos
+  pub pos-is : posOf z c l g ≡ r .pos
   pos-is = rw (← h .sum) (within-back (countAt z c l) (recordsOf z l) (r .file) (r .pos) (h .below) (h .high))
 
   spot-opened : Opened (partAt z c l (r .file)) (r .inner)

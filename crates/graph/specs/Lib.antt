@@ -1,3 +1,4 @@
 pub mod Chain
 pub mod Passes
 pub mod Questions
+pub mod Walks

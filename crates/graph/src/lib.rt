@@ -1,5 +1,5 @@
 // The chain: files end to end in one lent buffer, named by a lent list.
-
 pub mod init;
 pub mod positions;
 mod survey;
+pub mod walk;

@@ -25,7 +25,7 @@ pub fn which(chain: &[u8], list: &[u8], pos: Position) -> Asking
 }
 
 // The part of the chain that is the file of a spot.
-fn file_of<'a, 'b>(chain: &'a [u8], list: &'b [u8], g: u32, spot: Spot) -> &'a [u8]
+pub(crate) fn file_of<'a, 'b>(chain: &'a [u8], list: &'b [u8], g: u32, spot: Spot) -> &'a [u8]
     requires { ⌜ Listed 32 (now chain) (now list) (recordsOf 32 (now list)) ⌝ }
     requires { ⌜ Holds 32 (now chain) (now list) g (recordsOf 32 (now list)) spot ⌝ }
     ensures { λ r. ⌜ FileOf 32 (chain .entry) (now (list .entry)) spot r ⌝ }

@@ -33,7 +33,7 @@ pub struct Survey {
 }
 
 // The refusal of file `k`.
-fn of_file(k: u32, r: Refusal) -> Refusal
+pub fn of_file(k: u32, r: Refusal) -> Refusal
     ensures { λ x. ⌜ x ≡ placed k r ⌝ }
 {
     Refusal {
