@@ -6,14 +6,15 @@ use mathlib.Core.Path.{_≡_, refl, sym, ap, _∙_}
 use native.Mathlib.Omega.{arith}
 use lib.Dec.{ltb, eqb, lit<}
 use lib.ListN.{length, getD}
-use borrow.Author.Tests.{lt-ltb, le-ltb}
+use borrow.Author.Tests.{lt-ltb, le-ltb, ltb-false}
 use Rattle.types.specs.Refusals.{refusal}
 use Rattle.words.specs.Big.{be, number}
 use Rattle.words.specs.First.{_if_else_}
-use Rattle.words.proofs.Rows.{hit, miss, eq-not, ne-not}
+use Rattle.words.proofs.Rows.{hit, miss, pass, eq-not, ne-not}
 use Rattle.file.specs.Fits.{fitRule, fanPart, idsPart}
-use Rattle.access.specs.Lookup.{halving, keyOf, upper, lower, refuse, lookupOf}
+use Rattle.access.specs.Lookup.{found, halving, keyOf, upper, lower, refuse, lookupOf}
 use Rattle.file.specs.declared.File.{File}
+use Rattle.access.proofs.Halving.{halving-sound}
 use Rattle.access.specs.declared.Found.{Found}
 use Rattle.access.specs.declared.Found.the-variants.{Refused}
 
@@ -60,3 +61,19 @@ module _ (l : List ℕ) (f : File) (x : List ℕ) (m : ℕ) (e : m ≡ fitRule l
       look-search h from g =
           refuse-no _ _ _ none (refuse-no _ _ _ wide
           (refuse-no _ _ _ (miss 40 _ 0 0 (le-ltb (f .commits) (upper (fanPart l f) (getD x 0 0)) (omega arith)) refl) (rw (w, g, d))))
+
+-- what is found lies below N, on any bytes
+found-refuse : (n : ℕ) (rest : Found) (i : ℕ) → refuse n rest ≡ found i → (n ≡ 0) × (rest ≡ found i)
+unfolding refuse
+found-refuse zero rest i e = (refl, e)
+found-refuse (suc n) rest i e = let z : _≡_ {A = ℕ} 0 1 = cc in absurd (omega arith)
+
+pub found-below : (l : List ℕ) (f : File) (x : List ℕ) (i : ℕ) → lookupOf l f x ≡ found i → i < f .commits
+unfolding lookupOf
+found-below l f x i e =
+    let p1 = found-refuse _ _ i e in
+    let p2 = found-refuse _ _ i (p1 .1) in
+    let p3 = found-refuse _ _ i (p2 .1) in
+    let u : upper (fanPart l f) (getD x 0 0) ≤ f .commits = ltb-false _ _ (pass 40 _ _ (lit< tt) (p3 .0) .0) in
+    let s = halving-sound (keyOf (f .width) (idsPart l f)) (number x) _ _ i (p3 .1) in
+    omega (arith, s .1)

@@ -2,3 +2,4 @@ pub mod Passing
 pub mod Views
 pub mod Spots
 pub mod Steps
+pub mod Looking

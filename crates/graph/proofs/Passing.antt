@@ -67,13 +67,16 @@ module _ (z : ℕ) (c l : List ℕ) where
   unfolding openFrom openOr
   from-refused k left r e = rw e
 
-  -- what stands when the pass is at file k, which starts at `at`, with sum commits before it
-  pub record Passing (n g k at sum : ℕ) (r : Spot) : Type 0 where
+  -- what stands when a pass is at file k, which starts at `at`, with sum commits before it
+  pub record Along (n k at sum : ℕ) : Type 0 where
     pub few : k ≤ n
     pub place : at ≡ startAt z c l k
     pub total : sum ≡ before (countAt z c l) k
     pub small : sum * 36 ≤ at
     pub rest : openFrom z c l 0 n ≡ openFrom z c l k (n - k)
+
+  pub record Passing (n g k at sum : ℕ) (r : Spot) : Type 0 where
+    pub along : Along n k at sum
     pub kept : Kept z c l g k r
 
   -- what was opened is file k
@@ -89,88 +92,96 @@ module _ (z : ℕ) (c l : List ℕ) where
     unfolding partAt
     part-long k h = length-part (startAt z c l k) (lengthAt z l k) c (file-room k h)
 
+    pub along-begins : Along n 0 0 0
+    unfolding before
+    along-begins = record { few = omega arith; place = refl; total = refl; small = omega arith; rest = rw sub-zero }
+
     pub pass-begins : (g : ℕ) (r : Spot) → r .found ≡ false → Passing n g 0 0 0 r
     unfolding before
     pass-begins g r e =
         record {
-          few = omega arith;
-          place = refl;
-          total = refl;
-          small = omega arith;
-          rest = rw sub-zero;
+          along = along-begins;
           kept = record { holds = λ y. (let w : _≡_ {A = Bool} true false = sym y ∙ e in let v : _≡_ {A = ℕ} 0 1 = cc in absurd (omega arith)); outside = λ y. omega arith };
         }
+
+    -- a step from file k, where a file is refused, is open, or there is none
+    module _ (k at sum : ℕ) (p : Along n k at sum) where
+      pub along-ends : n ≤ k → refusal 0 0 ≡ openFrom z c l 0 n
+      unfolding openFrom
+      along-ends h = let y : n - k ≡ 0 = omega arith in sym (p .rest ∙ ap (openFrom z c l k) y)
+
+      module _ (h : k < n) where
+        ahead : n - k ≡ suc (n - (k + 1))
+        ahead = omega arith
+
+        pub along-refused : (q : Refusal) → openAt z c l k ≡ Refused q → (placed k q ≡ openFrom z c l 0 n) × (0 < q .number)
+        unfolding openAt
+        along-refused q e =
+            (sym (p .rest ∙ ap (openFrom z c l k) ahead ∙ from-refused k (n - (k + 1)) q e), refused-named true (partAt z c l k) q e)
+
+        module _ (f : File) (e : openAt z c l k ≡ Open f) where
+          pub counted : before (countAt z c l) (k + 1) ≡ sum + f .commits
+          counted = before-next (countAt z c l) k ∙ rw (count-open k f e) (omega (arith, p .total))
+
+          pub along-next : (m : ℕ) → m ≡ length (partAt z c l k) → Along n (k + 1) (at + m) (sum + f .commits)
+          along-next m y =
+              record {
+                few = omega arith;
+                place = omega (arith, before-next (lengthAt z l) k, part-long k h, p .place);
+                total = sym counted;
+                small = omega (arith, few-commits k f e, p .small);
+                rest = p .rest ∙ ap (openFrom z c l k) ahead ∙ from-open k (n - (k + 1)) f e;
+              }
+
+          -- the sum fits, and so does the next place
+          pub along-room : (sum + f .commits ≤ 1073741824) × (at + length (partAt z c l k) ≤ 1073741824)
+          along-room =
+              let a = few-commits k f e in
+              let b = part-long k h in
+              let y = file-room k h in
+              (omega (arith, p .small, p .place, d .most), omega (arith, p .place, d .most))
 
     more : (g k : ℕ) (r : Spot) → Holds z c l g k r → Holds z c l g (k + 1) r
     more g k r h = record { below = omega (arith, h .below); start = h .start; sum = h .sum; high = h .high; inner = h .inner }
 
     -- what was said of the first k files holds with one file more
     module _ (g k at sum : ℕ) (r : Spot) (p : Passing n g k at sum r) (h : k < n) where
-      ahead : n - k ≡ suc (n - (k + 1))
-      ahead = omega arith
-
       pub pass-refused : (q : Refusal) → openAt z c l k ≡ Refused q
           → Surveyed z c l n g (record { refusal = placed k q; commits = sum; spot = r })
-      unfolding openAt
       pass-refused q e =
-          let w : 0 < q .number = refused-named true (partAt z c l k) q e in
-          record {
-            refusal = sym (p .rest ∙ ap (openFrom z c l k) ahead ∙ from-refused k (n - (k + 1)) q e);
-            commits = λ y. absurd (omega arith);
-            kept = λ y. absurd (omega arith);
-          }
+          let w = along-refused k at sum (p .along) h q e in
+          record { refusal = w .0; commits = λ y. absurd (omega arith); kept = λ y. absurd (omega arith) }
 
       module _ (f : File) (e : openAt z c l k ≡ Open f) where
-        counted : before (countAt z c l) (k + 1) ≡ sum + f .commits
-        counted = before-next (countAt z c l) k ∙ rw (count-open k f e) (omega (arith, p .total))
-
         keep-step : Kept z c l g (k + 1) (keptOf r g sum (sum + f .commits) k at f)
         keep-step =
             ⊎-elim
             (λ (a : sum ≤ g).
-              ⊎-elim
-              (λ (b : sum + f .commits ≤ g).
-                subst (Kept z c l g (k + 1)) (kept-after r g sum (sum + f .commits) k at f a b)
-                (record { holds = λ y. more g k r (p .kept .holds y); outside = λ y. omega (arith, counted) }))
-              (λ (b : g < sum + f .commits).
-                subst (Kept z c l g (k + 1)) (kept-here r g sum (sum + f .commits) k at f a b)
-                (record {
-                  holds = λ y. record { below = omega arith; start = p .place; sum = omega (arith, p .total); high = rw (count-open k f e) (omega arith); inner = e };
-                  outside = λ y. (let v : _≡_ {A = ℕ} 0 1 = cc in absurd (omega arith));
-                }))
-              (le-or-lt (sum + f .commits) g))
+            ⊎-elim
+            (λ (b : sum + f .commits ≤ g).
+            subst (Kept z c l g (k + 1)) (kept-after r g sum (sum + f .commits) k at f a b)
+            (record { holds = λ y. more g k r (p .kept .holds y); outside = λ y. omega (arith, counted k at sum (p .along) h f e) }))
+            (λ (b : g < sum + f .commits).
+            subst (Kept z c l g (k + 1)) (kept-here r g sum (sum + f .commits) k at f a b)
+            (record {
+              holds = λ y. record { below = omega arith; start = p .along .place; sum = omega (arith, p .along .total); high = rw (count-open k f e) (omega arith); inner = e };
+              outside = λ y. (let v : _≡_ {A = ℕ} 0 1 = cc in absurd (omega arith));
+            }))
+            (le-or-lt (sum + f .commits) g))
             (λ (a : g < sum).
-              subst (Kept z c l g (k + 1)) (kept-before r g sum (sum + f .commits) k at f a)
-              (record { holds = λ y. more g k r (p .kept .holds y); outside = λ y. absurd (omega (arith, p .total, p .kept .outside y)) }))
+            subst (Kept z c l g (k + 1)) (kept-before r g sum (sum + f .commits) k at f a)
+            (record { holds = λ y. more g k r (p .kept .holds y); outside = λ y. absurd (omega (arith, p .along .total, p .kept .outside y)) }))
             (le-or-lt sum g)
 
         pub pass-next : (m : ℕ) → m ≡ length (partAt z c l k)
             → Passing n g (k + 1) (at + m) (sum + f .commits) (keptOf r g sum (sum + f .commits) k at f)
-        pass-next m d =
-            record {
-              few = omega arith;
-              place = omega (arith, before-next (lengthAt z l) k, part-long k h, p .place);
-              total = sym counted;
-              small = omega (arith, few-commits k f e, p .small);
-              rest = p .rest ∙ ap (openFrom z c l k) ahead ∙ from-open k (n - (k + 1)) f e;
-              kept = keep-step;
-            }
-
-        -- the sum fits, and so does the next place
-        pub pass-room : (sum + f .commits ≤ 1073741824) × (at + length (partAt z c l k) ≤ 1073741824)
-        pass-room =
-            let a = few-commits k f e in
-            let b = part-long k h in
-            let y = file-room k h in
-            (omega (arith, p .small, p .place, d .most), omega (arith, p .place, d .most))
+        pass-next m y = record { along = along-next k at sum (p .along) h f e m y; kept = keep-step }
 
     pub pass-ends : (g k at sum : ℕ) (r : Spot) → Passing n g k at sum r → n ≤ k → Surveyed z c l n g (record { refusal = refusal 0 0; commits = sum; spot = r })
-    unfolding openFrom
     pass-ends g k at sum r p h =
-        let q : k ≡ n = omega (arith, p .few) in
-        let y : n - k ≡ 0 = omega arith in
+        let q : k ≡ n = omega (arith, p .along .few) in
         record {
-          refusal = sym (p .rest ∙ ap (openFrom z c l k) y);
-          commits = λ w. p .total ∙ ap (before (countAt z c l)) q;
+          refusal = along-ends k at sum (p .along) h;
+          commits = λ w. p .along .total ∙ ap (before (countAt z c l)) q;
           kept = λ w. rw q at (p .kept);
         }

@@ -20,15 +20,15 @@ use Rattle.graph.specs.declared.init.Opening.the-variants.{Open as Whole
 use Rattle.graph.specs.declared.survey.Spot.{Spot}
 use Rattle.graph.specs.declared.survey.Survey.{Survey}
 
-else-first : (a b : Refusal) → 0 < a .number → orElse a b ≡ a
+pub else-first : (a b : Refusal) → 0 < a .number → orElse a b ≡ a
 unfolding orElse pickRefusal
 else-first a b h = rw (lt-ltb 0 (a .number) h)
 
-else-next : (a b : Refusal) → a .number ≡ 0 → orElse a b ≡ b
+pub else-next : (a b : Refusal) → a .number ≡ 0 → orElse a b ≡ b
 unfolding orElse pickRefusal
 else-next a b h = rw (le-ltb 0 (a .number) (omega arith))
 
-numbers : {a b : Refusal} → a ≡ b → a .number ≡ b .number
+pub numbers : {a b : Refusal} → a ≡ b → a .number ≡ b .number
 numbers e = ap (λ (r : Refusal). r .number) e
 
 module _ (z : ℕ) (c l : List ℕ) where

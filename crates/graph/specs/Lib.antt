@@ -2,3 +2,4 @@ pub mod Chain
 pub mod Passes
 pub mod Questions
 pub mod Walks
+pub mod Lookups

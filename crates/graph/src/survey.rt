@@ -85,7 +85,14 @@ fn kept(old: Spot, g: u32, sum: u32, next: u32, k: u32, at: usize, f: File) -> S
 }
 
 // File `k`, which starts at `at`.
-pub(crate) fn file_at<'a, 'b>(chain: &'a [u8], list: &'b [u8], z: u32, n: u32, k: u32, at: usize) -> &'a [u8]
+pub(crate) fn file_at<'a, 'b>(
+    chain: &'a [u8],
+    list: &'b [u8],
+    z: u32,
+    n: u32,
+    k: u32,
+    at: usize,
+) -> &'a [u8]
     requires { ⌜ Listed z (now chain) (now list) n ⌝ }
     requires { ⌜ (k < n) × (at ≡ before (lengthAt z (now list)) k) ⌝ }
     ensures bytes { λ r. ⌜ now r ≡ partAt z (now (chain .entry)) (now (list .entry)) k ⌝ }

@@ -9,24 +9,7 @@ use Rattle.graph.proofs.Passing.{file-room}
 use borrow.Author.Needs.{needs}
 use Rattle.graph.proofs.survey.file_at.Statement.{statement}
 use Rattle.graph.proofs.survey.file_at.Tie as tie
-use Rattle.graph.proofs.survey.file_at.Reads as reads
-use Rattle.graph.proofs.survey.file_at.Lts as lts
-use Rattle.list.proofs.length_at.Reads as length-at-reads
-use Rattle.words.proofs.part.part.Reads as part-reads
 
--- src/survey.rt:92:21
-length-at-requires : tie.Need-length-at-requires
-length-at-requires c κs = search needs
-
--- src/survey.rt:92:21
-cast-part : tie.Need-cast-part
-cast-part c = search needs
-
--- src/survey.rt:92:5
-part-requires : tie.Need-part-requires
-part-requires c κs = search needs
-
--- src/survey.rt:87:1
 returns : tie.Need-returns
 unfolding partAt
 returns c =
@@ -38,4 +21,8 @@ returns c =
     (p .bytes ∙ rw (mul-one, m, y .pre .1 .1), rw (mul-one, m) at p)
 
 pub file-at-spec : {M : Type 1} → statement M
-file-at-spec = tie.close (tie.spec length-at-requires cast-part part-requires returns)
+file-at-spec = tie.close (tie.spec
+    (λ c κs. search needs)
+    (λ c. search needs)
+    (λ c κs. search needs)
+    returns)

@@ -1,20 +1,18 @@
 use Rattle.graph.proofs.Passing.{kept-before, kept-after, kept-here}
 use Rattle.graph.proofs.survey.kept.Statement.{statement}
 use Rattle.graph.proofs.survey.kept.Tie as tie
-use Rattle.graph.proofs.survey.kept.Reads as reads
-use Rattle.graph.proofs.survey.kept.Lts as lts
 
--- src/survey.rt:72:9
 returns : tie.Need-returns
 returns c = kept-before _ _ _ _ _ _ _ (c .if1 .taken)
 
--- src/survey.rt:75:9
 returns-2 : tie.Need-returns-2
 returns-2 c = kept-after _ _ _ _ _ _ _ (c .before .if1 .left) (c .if2 .taken)
 
--- src/survey.rt:68:1
 returns-3 : tie.Need-returns-3
 returns-3 c = kept-here _ _ _ _ _ _ _ (c .before .if1 .left) (c .if2 .left)
 
 pub kept-spec : {M : Type 1} → statement M
-kept-spec = tie.close (tie.spec returns returns-2 returns-3)
+kept-spec = tie.close (tie.spec
+    returns
+    returns-2
+    returns-3)
