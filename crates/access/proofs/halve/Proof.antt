@@ -1,3 +1,4 @@
+-- `access::halve` meets its contract.
 use denote.Ref.{now}
 use Prim.Native.Nat.{_+_, _-_, _/_, _^_, _≤_, _<_}
 use mathlib.Core.Path.{_≡_, refl, sym, _∙_}

@@ -1,3 +1,4 @@
+-- `access::lookup` meets its contract.
 use Prim.Native.Nat.{ℕ}
 use mathlib.Core.List.{List}
 use mathlib.Core.Path.{_≡_, ap, ap₂, _∙_}

@@ -1,3 +1,4 @@
+-- `access::low` meets its contract.
 use mathlib.Core.Path.{_∙_}
 use Rattle.access.proofs.Halving.{lower-zero, lower-is}
 use borrow.Author.Needs.{needs}

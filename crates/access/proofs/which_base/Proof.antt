@@ -1,3 +1,4 @@
+-- `access::which_base` meets its contract.
 use mathlib.Core.Path.{ap, _∙_}
 use Rattle.access.specs.Lookup.{asking}
 use borrow.Author.Needs.{needs}

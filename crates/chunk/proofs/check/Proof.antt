@@ -1,3 +1,4 @@
+-- `chunk::check` meets its contract.
 use mathlib.Core.Path.{_∙_}
 use denote.Ref.{now}
 use Rattle.chunk.proofs.Sound.{index-cut, index-entry, index-last, index-fine}

@@ -1,3 +1,4 @@
+-- `chunk::end` meets its contract.
 use mathlib.Core.Path.{ap, _∙_}
 use denote.Ref.{now}
 use Rattle.chunk.specs.Index.{offAt}

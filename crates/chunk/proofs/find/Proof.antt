@@ -1,3 +1,4 @@
+-- `chunk::find` meets its contract.
 use Prim.Native.Nat.{ℕ}
 use mathlib.Core.Path.{ap₂, _∙_}
 use denote.Ref.{now}

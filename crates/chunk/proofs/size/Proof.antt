@@ -1,3 +1,4 @@
+-- `chunk::size` meets its contract.
 use mathlib.Core.Path.{ap}
 use native.Mathlib.Omega.{arith}
 use Rattle.chunk.specs.Index.{sizeOf}

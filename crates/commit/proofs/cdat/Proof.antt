@@ -1,3 +1,4 @@
+-- `commit::cdat` meets its contract.
 use Prim.Native.Nat.{_+_}
 use native.Mathlib.Omega.{arith}
 use Rattle.words.proofs.Parts.{records-in}

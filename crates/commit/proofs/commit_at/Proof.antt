@@ -1,3 +1,4 @@
+-- `commit::commit_at` meets its contract.
 use mathlib.Core.Path.{ap, _∙_}
 use denote.Ref.{now}
 use Rattle.commit.specs.declared.Asked.the-variants.{Commit as Is, Refused}

@@ -1,3 +1,4 @@
+-- `commit::commit_in` meets its contract.
 use Prim.Native.Nat.{_+_, _*_, _≤_}
 use mathlib.Core.Path.{_≡_, ap, _∙_}
 use native.Mathlib.Omega.{arith}

@@ -1,3 +1,4 @@
+-- `commit::extra_edge` meets its contract.
 use Rattle.commit.proofs.Words.{extra-last, extra-more}
 use Rattle.commit.proofs.extra_edge.Statement.{statement}
 use Rattle.commit.proofs.extra_edge.Tie as tie

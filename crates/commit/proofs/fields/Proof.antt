@@ -1,3 +1,4 @@
+-- `commit::fields` meets its contract.
 use Rattle.commit.specs.Commits.{commitOf}
 use borrow.Author.Needs.{needs}
 use Rattle.commit.proofs.fields.Statement.{statement}

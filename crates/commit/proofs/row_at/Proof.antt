@@ -1,3 +1,4 @@
+-- `commit::row_at` meets its contract.
 use Prim.Native.Nat.{ℕ, _+_, _*_, _≤_}
 use mathlib.Core.List.{List}
 use mathlib.Core.Path.{ap, _∙_}

@@ -1,3 +1,4 @@
+-- `commit::row_rule` meets its contract.
 use Prim.Native.Nat.{_+_}
 use native.Mathlib.Omega.{arith}
 use Rattle.words.proofs.Rows.{rows}

@@ -1,3 +1,4 @@
+-- `commit::tree_at` meets its contract.
 use Prim.Native.Nat.{_+_}
 use mathlib.Core.Path.{refl}
 use native.Mathlib.Omega.{arith}

@@ -1,3 +1,4 @@
+-- `list::at` meets its contract.
 use mathlib.Core.Path.{refl}
 use native.Mathlib.Omega.{arith}
 use Rattle.list.proofs.Records.{square}

@@ -1,3 +1,4 @@
+-- `list::blank` meets its contract.
 use Prim.Native.Nat.{ℕ}
 use mathlib.Core.Path.{ap, _∙_}
 use lib.Dec.{eqb}

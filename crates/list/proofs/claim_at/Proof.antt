@@ -1,3 +1,4 @@
+-- `list::claim_at` meets its contract.
 use borrow.Author.Needs.{needs}
 use Rattle.list.proofs.claim_at.Statement.{statement}
 use Rattle.list.proofs.claim_at.Tie as tie

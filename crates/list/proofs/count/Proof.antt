@@ -1,3 +1,4 @@
+-- `list::count` meets its contract.
 use native.Mathlib.Nat.{div-zero}
 use borrow.Author.Needs.{needs}
 use Rattle.list.proofs.count.Statement.{statement}

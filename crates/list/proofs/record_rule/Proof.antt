@@ -1,3 +1,4 @@
+-- `list::record_rule` meets its contract.
 use Rattle.list.proofs.Records.{record-kind, record-stray, record-spare, record-fine}
 use borrow.Author.Needs.{needs}
 use Rattle.list.proofs.record_rule.Statement.{statement}

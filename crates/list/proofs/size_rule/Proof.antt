@@ -1,3 +1,4 @@
+-- `list::size_rule` meets its contract.
 use Rattle.words.proofs.Rows.{rows}
 use Rattle.list.specs.List.{sizeRule}
 use borrow.Author.Needs.{needs}

@@ -1,3 +1,4 @@
+-- `opens::answer_prefixes` meets its contract.
 use Prim.Native.Nat.{_≤_, _+_, _-_}
 use borrow.Author.Needs.{needs}
 use native.Mathlib.Omega.{arith}

@@ -1,3 +1,4 @@
+-- `opens::main` meets its contract.
 use borrow.Author.Needs.{needs}
 use Rattle.opens.proofs.main.Statement.{statement}
 use Rattle.opens.proofs.main.Tie as tie

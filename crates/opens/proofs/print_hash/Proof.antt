@@ -1,3 +1,4 @@
+-- `opens::print_hash` meets its contract.
 use Prim.Native.Nat.{_≤_, _-_}
 use borrow.Author.Needs.{needs}
 use Rattle.opens.proofs.print_hash.Statement.{statement}

@@ -1,3 +1,4 @@
+-- `opens::record` meets its contract.
 use native.Mathlib.Omega.{arith}
 use lib.ListN.{length-take, length-append}
 use borrow.Author.Needs.{needs}

@@ -1,3 +1,4 @@
+-- `sha1::sha1` meets its contract.
 use Prim.Native.Nat.{ℕ}
 use mathlib.Core.Path.{ap, _∙_}
 use mathlib.Core.List.{List, []}

@@ -1,3 +1,4 @@
+-- `vectors::whole` meets its contract.
 use Prim.Native.Nat.{_≤_, _-_}
 use native.Mathlib.Omega.{arith}
 use borrow.Author.Needs.{needs}

@@ -1,3 +1,4 @@
+-- `chunk::entry::bad_entry` meets its contract.
 use Prim.Native.Nat.{_-_, _≤_}
 use mathlib.Core.Path.{_≡_}
 use native.Mathlib.Omega.{arith}

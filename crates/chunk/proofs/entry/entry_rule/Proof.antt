@@ -1,3 +1,4 @@
+-- `chunk::entry::entry_rule` meets its contract.
 use Prim.Native.Nat.{_+_, _*_}
 use mathlib.Core.Path.{_≡_}
 use lib.ListN.{length}

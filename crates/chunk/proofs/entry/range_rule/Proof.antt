@@ -1,3 +1,4 @@
+-- `chunk::entry::range_rule` meets its contract.
 use Rattle.words.proofs.Rows.{rows}
 use Rattle.chunk.specs.Index.{rangeRule}
 use Rattle.chunk.proofs.entry.range_rule.Statement.{statement}

@@ -1,3 +1,4 @@
+-- `commit::parents::count_at` meets its contract.
 use mathlib.Core.Path.{ap, _∙_}
 use denote.Ref.{now}
 use Rattle.commit.specs.Walks.{totalBy}

@@ -1,3 +1,4 @@
+-- `commit::parents::edge` meets its contract.
 use native.Mathlib.Omega.{arith}
 use native.Mathlib.Nat.{mul-one}
 use Rattle.words.proofs.Parts.{records-in}

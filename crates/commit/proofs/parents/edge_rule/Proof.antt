@@ -1,3 +1,4 @@
+-- `commit::parents::edge_rule` meets its contract.
 use Prim.Native.Nat.{_*_}
 use native.Mathlib.Omega.{arith}
 use lib.ListN.{length}

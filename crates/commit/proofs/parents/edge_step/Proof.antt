@@ -1,3 +1,4 @@
+-- `commit::parents::edge_step` meets its contract.
 use denote.Ref.{now}
 use mathlib.Core.Path.{_∙_}
 use native.Mathlib.Omega.{arith}

@@ -1,3 +1,4 @@
+-- `commit::parents::first_step` meets its contract.
 use mathlib.Core.Path.{_∙_}
 use Rattle.commit.specs.Walks.{firstNext, aloneNext}
 use borrow.Author.Needs.{needs}

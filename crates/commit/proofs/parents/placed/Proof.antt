@@ -1,3 +1,4 @@
+-- `commit::parents::placed` meets its contract.
 use Rattle.commit.specs.Walks.{answerOf}
 use borrow.Author.Needs.{needs}
 use Rattle.commit.proofs.parents.placed.Statement.{statement}

@@ -1,3 +1,4 @@
+-- `commit::parents::second_step` meets its contract.
 use mathlib.Core.Path.{_∙_}
 use Rattle.commit.specs.Walks.{secondNext}
 use borrow.Author.Needs.{needs}

@@ -1,3 +1,4 @@
+-- `commit::parents::step_at` meets its contract.
 use mathlib.Core.Path.{ap, _∙_}
 use denote.Ref.{now}
 use Rattle.types.specs.declared.refusal.Refusal.{Refusal}

@@ -1,3 +1,4 @@
+-- `commit::parents::step_in` meets its contract.
 use mathlib.Core.Path.{_∙_}
 use Rattle.commit.specs.Walks.{nextOf}
 use borrow.Author.Needs.{needs}

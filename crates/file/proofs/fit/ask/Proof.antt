@@ -1,3 +1,4 @@
+-- `file::fit::ask` meets its contract.
 use denote.Ref.{now}
 use Rattle.file.proofs.Fitting.{ask-misfit, ask-out, ask-fine}
 use borrow.Author.Needs.{needs}

@@ -1,3 +1,4 @@
+-- `file::fit::fit` meets its contract.
 use mathlib.Core.Bool.{true, false}
 use mathlib.Core.Path.{refl}
 use Rattle.words.proofs.Rows.{rows, hit, miss, eq-not, not-via}

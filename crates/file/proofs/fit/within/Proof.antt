@@ -1,3 +1,4 @@
+-- `file::fit::within` meets its contract.
 use mathlib.Core.Path.{_∙_}
 use borrow.Author.Needs.{needs}
 use Rattle.file.proofs.fit.within.Statement.{statement}

@@ -1,3 +1,4 @@
+-- `file::init::fan_open` meets its contract.
 use Prim.Native.Nat.{ℕ}
 use mathlib.Core.Path.{_≡_, ap, _∙_}
 use denote.Ref.{now}

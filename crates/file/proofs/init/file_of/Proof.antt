@@ -1,3 +1,4 @@
+-- `file::init::file_of` meets its contract.
 use Rattle.file.specs.Table.{fileOf}
 use borrow.Author.Needs.{needs}
 use Rattle.file.proofs.init.file_of.Statement.{statement}

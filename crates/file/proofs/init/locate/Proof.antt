@@ -1,3 +1,4 @@
+-- `file::init::locate` meets its contract.
 use Rattle.file.specs.Table.{indexOf}
 use borrow.Author.Needs.{needs}
 use Rattle.file.proofs.init.locate.Statement.{statement}

@@ -1,3 +1,4 @@
+-- `file::name::claimed` meets its contract.
 use Prim.Native.Nat.{_+_, _-_, _*_, _≤_}
 use mathlib.Core.Path.{_≡_, refl}
 use native.Mathlib.Omega.{arith}

@@ -1,3 +1,4 @@
+-- `file::name::digit` meets its contract.
 use native.Mathlib.Omega.{arith}
 use Rattle.words.proofs.Rows.{rows}
 use Rattle.file.specs.Names.{digitOf}

@@ -1,3 +1,4 @@
+-- `file::name::read` meets its contract.
 use mathlib.Core.Bool.{Bool, true, false}
 use mathlib.Core.Path.{_≡_, sym, ap, _∙_}
 use lib.Dec.{eqb}

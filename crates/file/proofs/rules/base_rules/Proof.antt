@@ -1,3 +1,4 @@
+-- `file::rules::base_rules` meets its contract.
 use Rattle.words.proofs.Rows.{rows}
 use Rattle.file.specs.Table.{baseRules}
 use borrow.Author.Needs.{needs}

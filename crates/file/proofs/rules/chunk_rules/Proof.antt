@@ -1,3 +1,4 @@
+-- `file::rules::chunk_rules` meets its contract.
 use Rattle.words.proofs.Rows.{rows}
 use Rattle.file.specs.Table.{chunkRules}
 use borrow.Author.Needs.{needs}

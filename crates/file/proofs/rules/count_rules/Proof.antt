@@ -1,3 +1,4 @@
+-- `file::rules::count_rules` meets its contract.
 use Rattle.words.proofs.Rows.{rows}
 use Rattle.file.specs.Table.{countRules}
 use borrow.Author.Needs.{needs}

@@ -1,3 +1,4 @@
+-- `file::rules::fan_by` meets its contract.
 use mathlib.Core.Path.{refl, _∙_}
 use denote.Ref.{now}
 use Rattle.words.proofs.Rows.{hit, miss}

@@ -1,3 +1,4 @@
+-- `file::rules::head` meets its contract.
 use Rattle.words.proofs.Rows.{rows}
 use Rattle.file.specs.Table.{header}
 use borrow.Author.Needs.{needs}

@@ -1,3 +1,4 @@
+-- `file::rules::records` meets its contract.
 use Prim.Native.Nat.{ℕ, _/_}
 use mathlib.Core.Path.{ap}
 use borrow.Author.Needs.{needs}

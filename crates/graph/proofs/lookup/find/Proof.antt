@@ -1,3 +1,4 @@
+-- `graph::lookup::find` meets its contract.
 use native.Mathlib.Omega.{arith}
 use denote.Ref.{now}
 use Rattle.graph.proofs.Views.{list-listed}

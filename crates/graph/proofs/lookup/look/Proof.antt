@@ -1,3 +1,4 @@
+-- `graph::lookup::look` meets its contract.
 use Prim.Native.Nat.{_-_}
 use mathlib.Core.Path.{refl, ap}
 use native.Mathlib.Omega.{arith}

@@ -1,3 +1,4 @@
+-- `graph::lookup::noted` meets its contract.
 use native.Mathlib.Omega.{arith}
 use Rattle.graph.specs.Lookups.{noteFile}
 use Rattle.graph.proofs.Looking.{noted-seen, noted-new}

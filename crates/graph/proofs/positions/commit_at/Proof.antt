@@ -1,3 +1,4 @@
+-- `graph::positions::commit_at` meets its contract.
 use native.Mathlib.Omega.{arith}
 use denote.Ref.{now}
 use Rattle.graph.proofs.Spots.{commit-none, commit-part}

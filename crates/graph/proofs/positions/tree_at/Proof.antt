@@ -1,3 +1,4 @@
+-- `graph::positions::tree_at` meets its contract.
 use mathlib.Core.Path.{refl}
 use native.Mathlib.Omega.{arith}
 use denote.Ref.{now}

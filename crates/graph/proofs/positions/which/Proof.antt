@@ -1,3 +1,4 @@
+-- `graph::positions::which` meets its contract.
 use Rattle.graph.proofs.Views.{asking-refused, asking-fine}
 use borrow.Author.Needs.{needs}
 use Rattle.graph.proofs.positions.which.Statement.{statement}

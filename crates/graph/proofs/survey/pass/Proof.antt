@@ -1,3 +1,4 @@
+-- `graph::survey::pass` meets its contract.
 use Prim.Native.Nat.{_-_}
 use mathlib.Core.Path.{ap}
 use native.Mathlib.Omega.{arith}

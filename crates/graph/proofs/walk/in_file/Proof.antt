@@ -1,3 +1,4 @@
+-- `graph::walk::in_file` meets its contract.
 use Rattle.graph.specs.Walks.{answerIn}
 use borrow.Author.Needs.{needs}
 use Rattle.graph.proofs.walk.in_file.Statement.{statement}

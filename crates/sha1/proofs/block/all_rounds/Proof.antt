@@ -1,3 +1,4 @@
+-- `sha1::block::all_rounds` meets its contract.
 use mathlib.Core.Path.{refl}
 use Rattle.sha1.specs.Fips.{rounds}
 use borrow.Author.Needs.{needs}

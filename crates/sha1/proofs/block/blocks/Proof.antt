@@ -1,3 +1,4 @@
+-- `sha1::block::blocks` meets its contract.
 use Prim.Native.Nat.{ℕ, _+_, _*_, _≤_, _-_, _/_}
 use mathlib.Core.Path.{_≡_, refl, _∙_, ap}
 use native.Mathlib.Omega.{arith}

@@ -1,3 +1,4 @@
+-- `sha1::block::compress_block` meets its contract.
 use Rattle.sha1.specs.Fips.{compress, sums}
 use borrow.Author.Needs.{needs}
 use Rattle.sha1.proofs.block.compress_block.Statement.{statement}

@@ -1,3 +1,4 @@
+-- `sha1::block::constant` meets its contract.
 use Rattle.words.proofs.Rows.{rows}
 use Rattle.sha1.specs.Fips.{k}
 use Rattle.sha1.proofs.block.constant.Statement.{statement}

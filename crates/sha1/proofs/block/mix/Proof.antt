@@ -1,3 +1,4 @@
+-- `sha1::block::mix` meets its contract.
 use Rattle.words.proofs.Rows.{rows}
 use Rattle.sha1.specs.Fips.{f}
 use Rattle.sha1.proofs.block.mix.Statement.{statement}

@@ -1,3 +1,4 @@
+-- `sha1::block::one_round` meets its contract.
 use Rattle.sha1.specs.Fips.{round}
 use borrow.Author.Needs.{needs}
 use Rattle.sha1.proofs.block.one_round.Statement.{statement}

@@ -1,3 +1,4 @@
+-- `sha1::block::some_rounds` meets its contract.
 use Prim.Native.Nat.{ℕ, _≤_, _-_}
 use mathlib.Core.Path.{_≡_, ap, _∙_}
 use mathlib.Core.List.{List}

@@ -1,3 +1,4 @@
+-- `sha1::fields::digest` meets its contract.
 use native.Mathlib.Nat.{div-one}
 use lib.ListN.{length}
 use mathlib.Core.Path.{_≡_, sym, ap, _∙_}

@@ -1,3 +1,4 @@
+-- `sha1::fields::length_bytes` meets its contract.
 use Prim.Native.Nat.{_*_, _%_, _^_}
 use native.Mathlib.Nat.{div-one}
 use native.Mathlib.Omega.{arith}

@@ -1,3 +1,4 @@
+-- `words::big::be32` meets its contract.
 use native.Mathlib.Omega.{arith}
 use native.Mathlib.Nat.{add-zero}
 use Rattle.words.specs.Big.{be}

@@ -1,3 +1,4 @@
+-- `words::big::be64` meets its contract.
 use native.Mathlib.Omega.{arith}
 use denote.Ref.{now}
 use Rattle.words.proofs.Numbers.{be-past, be-split}

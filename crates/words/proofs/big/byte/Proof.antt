@@ -1,3 +1,4 @@
+-- `words::big::byte` meets its contract.
 use native.Mathlib.Omega.{arith}
 use lib.ListN.{List·getD-eq-default}
 use mathlib.Core.Path.{sym}

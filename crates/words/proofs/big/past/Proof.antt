@@ -1,3 +1,4 @@
+-- `words::big::past` meets its contract.
 use native.Mathlib.Omega.{arith}
 use native.Mathlib.Nat.{add-zero}
 use denote.Ref.{now}

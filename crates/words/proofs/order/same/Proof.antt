@@ -1,3 +1,4 @@
+-- `words::order::same` meets its contract.
 use Rattle.words.proofs.Ordered.{told-same}
 use borrow.Author.Needs.{needs}
 use Rattle.words.proofs.order.same.Statement.{statement}

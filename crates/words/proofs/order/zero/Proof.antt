@@ -1,3 +1,4 @@
+-- `words::order::zero` meets its contract.
 use native.Mathlib.Nat.{zero-add}
 use Prim.Native.Nat.{_+_, _-_, _≤_, _<_, ℕ}
 use native.Mathlib.Omega.{arith}

@@ -1,3 +1,4 @@
+-- `words::part::room` meets its contract.
 use Rattle.words.proofs.Parts.{fits-none, fits-empty, fits-is}
 use borrow.Author.Needs.{needs}
 use Rattle.words.proofs.part.room.Statement.{statement}

@@ -1,3 +1,4 @@
+-- `graph::walk::Walk::step` meets its contract.
 use native.Mathlib.Omega.{arith}
 use denote.Ref.{now}
 use Rattle.graph.proofs.Steps.{step-refused, step-in}

@@ -1,3 +1,4 @@
+-- `sha1::hasher::Hasher::new` meets its contract.
 use mathlib.Core.Path.{refl}
 use Rattle.sha1.specs.Fips.{initial}
 use Rattle.sha1.specs.State.{started}
