@@ -1,2 +1,3 @@
 pub mod Words
 pub mod Walking
+pub mod Filling

@@ -182,6 +182,19 @@ module _ (a b : ParentEdge) (t : Bool) (e : List ℕ) (s : Phase) (x : Next) (d 
   rest : restOf a b t e s ≡ follow x (restOf a b t e)
   rest = rest-follow a b t e s ∙ ap (λ (y : Next). follow y (restOf a b t e)) (sym d)
 
+  -- what is left at s, by what the step met
+  pub rest-parent : (q : Ancestor) → x .met ≡ Parent q → restOf a b t e s ≡ parent (q .position .0) (restOf a b t e (x .phase))
+  unfolding followMet
+  rest-parent q h = rest ∙ rw h
+
+  pub rest-stop : (r : ℕ) → x .met ≡ Refused r → restOf a b t e s ≡ ends r
+  unfolding followMet
+  rest-stop r h = rest ∙ rw h
+
+  pub rest-end : x .met ≡ End → restOf a b t e s ≡ ends 0
+  unfolding followMet
+  rest-end h = rest ∙ rw h
+
   module _ (n : ℕ) where
     named : (r : ℕ) → 0 < r → Stopped r ≡ counted r n
     unfolding counted
@@ -189,16 +202,16 @@ module _ (a b : ParentEdge) (t : Bool) (e : List ℕ) (s : Phase) (x : Next) (d 
     named (suc r) h = refl
 
     pub count-next : (q : Ancestor) → x .met ≡ Parent q → countFrom n (restOf a b t e s) ≡ countFrom (n + 1) (restOf a b t e (x .phase))
-    unfolding countFrom followMet
-    count-next q h = ap (countFrom n) rest ∙ rw h
+    unfolding countFrom
+    count-next q h = ap (countFrom n) (rest-parent q h)
 
     pub count-stop : (r : ℕ) → x .met ≡ Refused r → Stopped r ≡ countFrom n (restOf a b t e s)
-    unfolding countFrom followMet Fair
-    count-stop r h = named r (subst (λ (m : Met). Fair e (mostFrom e s) m (x .phase)) h fair) ∙ sym (ap (countFrom n) rest ∙ rw h)
+    unfolding countFrom Fair
+    count-stop r h = named r (subst (λ (m : Met). Fair e (mostFrom e s) m (x .phase)) h fair) ∙ sym (ap (countFrom n) (rest-stop r h))
 
     pub count-end : x .met ≡ End → Count n ≡ countFrom n (restOf a b t e s)
-    unfolding countFrom followMet counted
-    count-end h = sym (ap (countFrom n) rest ∙ rw h)
+    unfolding countFrom counted
+    count-end h = sym (ap (countFrom n) (rest-end h))
 
   pub next-less : (q : Ancestor) → x .met ≡ Parent q → mostFrom e (x .phase) < mostFrom e s
   unfolding Fair

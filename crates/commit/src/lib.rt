@@ -1,4 +1,5 @@
 // Commits of one file: tree, generation, time and parent words.
+pub mod listing;
 pub mod parents;
 
 use file::File;

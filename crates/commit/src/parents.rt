@@ -237,7 +237,7 @@ fn placed(i: u32, x: Next) -> Step
 }
 
 // The EDGE chunk's own part.
-fn edge<'a>(s: &'a [u8], f: File) -> &'a [u8]
+pub(crate) fn edge<'a>(s: &'a [u8], f: File) -> &'a [u8]
     requires { ⌜ Fitted (now s) f ⌝ }
     ensures { λ r. ⌜ PartOf (s .entry) (startOf (f .edge)) (sizeOf (f .edge)) r ⌝ }
 {
@@ -246,7 +246,7 @@ fn edge<'a>(s: &'a [u8], f: File) -> &'a [u8]
 }
 
 // Whether the file has an EDGE chunk.
-fn present(f: File) -> bool
+pub(crate) fn present(f: File) -> bool
     ensures { λ r. ⌜ r ≡ not (absent (f .edge)) ⌝ }
 {
     let c = f.edge;

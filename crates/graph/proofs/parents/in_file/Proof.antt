@@ -1,0 +1,16 @@
+-- `graph::parents::in_file` meets its contract.
+use Rattle.graph.specs.Lists.{totalIn}
+use borrow.Author.Needs.{needs}
+use Rattle.graph.proofs.parents.in_file.Statement.{statement}
+use Rattle.graph.proofs.parents.in_file.Tie as tie
+
+returns : tie.Need-returns
+unfolding totalIn
+returns c = rw (c .before .t .given .1)
+
+returns-2 : tie.Need-returns-2
+unfolding totalIn
+returns-2 c = rw (c .before .before .t2 .given .1, c .of-file .ensures)
+
+pub in-file-spec : {M : Type 1} → statement M
+in-file-spec = tie.close (tie.spec (λ c. search needs) (λ c. search needs) (λ c κs. search needs) returns returns-2)
