@@ -54,7 +54,7 @@ use Rattle.graph.proofs.walk.Step.Laws as SL
 use Rattle.commit.proofs.parents.Answer as R′
 use Rattle.commit.proofs.parents.Answer.Laws as RL
 
--- the three types, and the machine values of theirs
+-- the three types, and their values in the machine
 abbrev pub walkT : RattleType
 walkT = W′.the-row
 

@@ -1,4 +1,4 @@
-// The walk over a commit's parents in a chain: a step that takes the walk and hands it back.
+// The walk over a commit's parents in a chain: a step that takes the walk and hands it back, and one that changes it in place.
 use super::init::locate;
 use super::positions::file_of;
 use super::survey::of_file;
