@@ -1,4 +1,4 @@
-// The walk over a commit's parents in a chain: a step that takes the walk and hands it back.
+// The walk over a commit's parents in a chain: a step that takes the walk and hands it back, and one that changes it in place.
 use super::init::locate;
 use super::positions::file_of;
 use super::survey::of_file;
@@ -63,4 +63,24 @@ impl Walk {
             },
         }
     }
+}
+
+// The second door: the caller's walk is changed in place.
+pub fn next_parent(walk: &mut Walk, chain: &[u8], list: &[u8]) -> Answer
+    ensures { λ r. ⌜ (r ≡ stepOf 32 (now (chain .entry)) (now (list .entry)) (now (walk .entry)) .answer)
+        × (now (walk .exit) ≡ stepOf 32 (now (chain .entry)) (now (list .entry)) (now (walk .entry)) .next) ⌝ }
+{
+    let w = *walk;
+    let s = w.step(chain, list);
+    *walk = s.next;
+    s.answer
+}
+
+// A caller of the second door with plain parameters: the walk is kept in a local, and lent.
+pub fn through_door(from: Walk, chain: &[u8], list: &[u8]) -> Step
+    ensures { λ r. ⌜ r ≡ stepOf 32 (now (chain .entry)) (now (list .entry)) from ⌝ }
+{
+    let mut w = from;
+    let a = next_parent(&mut w, chain, list);
+    Step { answer: a, next: w }
 }
