@@ -3,3 +3,4 @@ pub mod Views
 pub mod Spots
 pub mod Steps
 pub mod Looking
+pub mod Standing

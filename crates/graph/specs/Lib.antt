@@ -3,3 +3,4 @@ pub mod Passes
 pub mod Questions
 pub mod Walks
 pub mod Lookups
+pub mod Theorems

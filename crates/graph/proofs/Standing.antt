@@ -1,0 +1,39 @@
+-- Each position of a chain stands in exactly one file, and back.
+use Prim.Native.Nat.{ℕ, _+_, _≤_, _<_}
+use mathlib.Core.List.{List}
+use mathlib.Core.Path.{_≡_, refl, sym, ap, _∙_}
+use native.Mathlib.Omega.{arith}
+use Rattle.types.specs.declared.refusal.Refusal.{Refusal}
+use Rattle.words.proofs.Adds.{before-lt, which-below, within-below, within-sum, which-back, within-back}
+use Rattle.list.specs.List.{recordsOf}
+use Rattle.file.specs.declared.File.{File}
+use Rattle.file.specs.declared.Opening.{Opening}
+use Rattle.file.specs.declared.Opening.the-variants.{Open, Refused}
+use Rattle.graph.specs.Chain.{commitsOf, openAt, countAt, commitsIn, fileOf, posOf}
+use Rattle.graph.specs.Theorems.{Stands}
+
+-- a file that has a place is open
+pub has-open : (o : Opening) (i : ℕ) → i < commitsOf o → (f : File) × (o ≡ Open f) × (i < f .commits)
+unfolding commitsOf
+has-open (Open f) i h = (f, refl, h)
+has-open (Refused r) i h = let z : ⊥ = omega arith in absurd z
+
+module _ (z : ℕ) (c l : List ℕ) where
+  position-open : (g : ℕ) → g < commitsIn z c l → (f : File) × (openAt z c l (fileOf z c l g) ≡ Open f) × (posOf z c l g < f .commits)
+  unfolding countAt
+  position-open g h = has-open (openAt z c l (fileOf z c l g)) (posOf z c l g) (within-below (countAt z c l) (recordsOf z l) g h)
+
+  pub stands : Stands z c l
+  stands =
+      record {
+        file = which-below (countAt z c l) (recordsOf z l);
+        pos = within-below (countAt z c l) (recordsOf z l);
+        sum = within-sum (countAt z c l) (recordsOf z l);
+        opens = position-open;
+        inside = λ k i b h. omega (arith, before-lt (countAt z c l) k (recordsOf z l) b);
+        fileBack = which-back (countAt z c l) (recordsOf z l);
+        posBack = within-back (countAt z c l) (recordsOf z l);
+        only = λ k i m j b h d g e.
+            (sym (which-back (countAt z c l) (recordsOf z l) k i b h) ∙ ap (fileOf z c l) e ∙ which-back (countAt z c l) (recordsOf z l) m j d g,
+            sym (within-back (countAt z c l) (recordsOf z l) k i b h) ∙ ap (posOf z c l) e ∙ within-back (countAt z c l) (recordsOf z l) m j d g);
+      }
