@@ -60,6 +60,10 @@ module _ (l : List ℕ) (f : File) (o : Opened l f) (u : Rises l f) where
   id-within : (i : ℕ) → i < f .commits → i * f .width + f .width ≤ length (idsPart l f)
   id-within i h = omega (arith, ids-long, run-within i (f .commits) (f .width) h)
 
+  pub stored-long : (i : ℕ) → i < f .commits → length (stored l f i) ≡ f .width
+  unfolding stored
+  stored-long i h = length-part (i * f .width) (f .width) (idsPart l f) (id-within i h)
+
   module _ (x : List ℕ) (bx : Bytes x) where
     -- for a file that `open` gave a lookup is the plain search
     pub plain : length x ≡ f .width
@@ -117,8 +121,7 @@ module _ (l : List ℕ) (f : File) (o : Opened l f) (u : Rises l f) where
           ∙ getD-drop (i * f .width) (idsPart l f) 0 0 ∙ rw add-zero)
 
       length-is : (i : ℕ) → i < f .commits → stored l f i ≡ x → length x ≡ f .width
-      unfolding stored
-      length-is i h e = rw (← e) (length-part (i * f .width) (f .width) (idsPart l f) (id-within i h))
+      length-is i h e = rw (← e) (stored-long i h)
 
       whole : (i : ℕ) → i < f .commits → stored l f i ≡ x → lookupOf l f x ≡ found i
       unfolding stored keyOf
@@ -139,6 +142,11 @@ module _ (l : List ℕ) (f : File) (o : Opened l f) (u : Rises l f) where
             absent = λ e i h g. (let s = whole i h g in let z : _≡_ {A = ℕ} 0 1 = cc in absurd (omega arith));
             none = λ h. ⊎-elim (λ a. (let s = sound (a .0) (a .1) in absurd (h (a .0) (s .0) (s .1)))) (λ e. e) (answers-in x bx w);
           }
+
+-- an id that is stored is made of bytes
+pub stored-bytes : (l : List ℕ) (f : File) (i : ℕ) → Bytes l → Bytes (stored l f i)
+unfolding stored
+stored-bytes l f i bl = bytes-part (idsPart l f) (i * f .width) (f .width) (bytes-part l (f .oidl) (f .commits * f .width) bl)
 
 -- an opened file never refuses an id of its width
 pub answers : (l : List ℕ) (f : File) (x : List ℕ) → opening l ≡ Open f → Bytes x → length x ≡ f .width → Answers (lookupOf l f x)

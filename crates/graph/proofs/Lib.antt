@@ -4,3 +4,4 @@ pub mod Spots
 pub mod Steps
 pub mod Looking
 pub mod Standing
+pub mod Exactly

@@ -33,7 +33,8 @@ module _ (z : ℕ) (c l : List ℕ) where
         inside = λ k i b h. omega (arith, before-lt (countAt z c l) k (recordsOf z l) b);
         fileBack = which-back (countAt z c l) (recordsOf z l);
         posBack = within-back (countAt z c l) (recordsOf z l);
-        only = λ k i m j b h d g e.
-            (sym (which-back (countAt z c l) (recordsOf z l) k i b h) ∙ ap (fileOf z c l) e ∙ which-back (countAt z c l) (recordsOf z l) m j d g,
-            sym (within-back (countAt z c l) (recordsOf z l) k i b h) ∙ ap (posOf z c l) e ∙ within-back (countAt z c l) (recordsOf z l) m j d g);
+        only = λ k i m j b h d g e. (
+          sym (which-back (countAt z c l) (recordsOf z l) k i b h) ∙ ap (fileOf z c l) e ∙ which-back (countAt z c l) (recordsOf z l) m j d g,
+          sym (within-back (countAt z c l) (recordsOf z l) k i b h) ∙ ap (posOf z c l) e ∙ within-back (countAt z c l) (recordsOf z l) m j d g,
+        );
       }

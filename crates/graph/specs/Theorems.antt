@@ -18,7 +18,7 @@ use Rattle.commit.specs.declared.parents.Parent.{Parent as Ancestor}
 use Rattle.commit.specs.declared.parents.Phase.{Phase}
 use Rattle.commit.specs.declared.parents.Phase.the-variants.{First, Exhausted}
 use Rattle.graph.specs.Chain.{partAt, openAt, countAt, firstAt, commitsIn, fileOf, posOf, opened}
-use Rattle.graph.specs.Lookups.{place}
+use Rattle.graph.specs.Lookups.{place, lookupOf}
 use Rattle.graph.specs.Walks.{stepOf}
 use Rattle.graph.specs.declared.lookup.Found.{Found}
 use Rattle.graph.specs.declared.lookup.Found.the-variants.{Absent}
@@ -61,6 +61,14 @@ pub record Exact (z : ℕ) (c l x : List ℕ) (r : Found) : Type 0 where
   pub whole : (g : ℕ) → g < commitsIn z c l → idOf z c l g ≡ x → (h : ℕ) × (r ≡ place h) × (h ≤ g)
   pub absent : r ≡ Absent → (g : ℕ) → g < commitsIn z c l → idOf z c l g ≡ x → ⊥
   pub none : ((g : ℕ) → g < commitsIn z c l → idOf z c l g ≡ x → ⊥) → r ≡ Absent
+
+-- a lookup of the id at position g finds the lowest position that stores it
+pub record Agrees (z : ℕ) (c l : List ℕ) (g : ℕ) : Type 0 where
+  pub at : ℕ
+  pub found : lookupOf z c l (idOf z c l g) ≡ place at
+  pub same : idOf z c l at ≡ idOf z c l g
+  pub below : at ≤ g
+  pub lowest : (j : ℕ) → j < at → idOf z c l j ≡ idOf z c l g → ⊥
 
 -- ── walks ──
 
