@@ -5,3 +5,4 @@ pub mod Steps
 pub mod Looking
 pub mod Standing
 pub mod Exactly
+pub mod Following
