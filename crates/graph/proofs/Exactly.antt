@@ -1,29 +1,23 @@
 -- A lookup in a chain whose files are in order finds an id exactly if some file stores it, at its lowest position.
-use Prim.Native.Nat.{ℕ, zero, suc, _+_, _-_, _*_, _≤_, _<_}
+use Prim.Native.Nat.{ℕ, zero, suc, _+_, _-_, _≤_, _<_}
 use mathlib.Core.List.{List}
 use mathlib.Core.Bool.{true}
 use mathlib.Core.Path.{_≡_, refl, sym, ap, _∙_}
 use mathlib.Core.Logic.{⊎-elim}
 use native.Mathlib.Omega.{arith}
-use native.Mathlib.Nat.{add-zero}
 use lib.ListN.{length}
 use borrow.Author.Tests.{le-ltb, eqb-true}
 use Rattle.types.specs.declared.graph.Position.{Position}
-use Rattle.types.specs.declared.refusal.Refusal.{Refusal}
 use Rattle.words.specs.Big.{Bytes}
 use Rattle.words.specs.Sums.{before}
 use Rattle.words.proofs.Adds.{before-next, before-le}
 use Rattle.words.proofs.Numbers.{le-or-lt, bytes-part}
-use Rattle.words.proofs.Parts.{length-part}
 use Rattle.words.proofs.Rows.{eq-not}
 use Rattle.list.specs.List.{recordsOf, lengthAt}
-use Rattle.file.specs.Fits.{idsPart}
-use Rattle.file.specs.Facts.{Opened}
 use Rattle.file.specs.declared.File.{File}
 use Rattle.file.specs.declared.Opening.{Opening}
 use Rattle.file.specs.declared.Opening.the-variants.{Open, Refused}
 use Rattle.file.proofs.Opens.{opened as file-opened, rising}
-use Rattle.file.proofs.Fitting.{run-within}
 use Rattle.access.specs.Lookup.{found, stored, Finds, Right, lookupOf as lookupIn}
 use Rattle.access.proofs.Halving.{found-same}
 use Rattle.access.proofs.Stores.{stored-long, stored-bytes, answers, both}
@@ -31,7 +25,7 @@ use Rattle.graph.specs.Chain.{commitsOf, startAt, partAt, openAt, countA
 use Rattle.graph.specs.Lookups.{findIn, place, shift, findAt, lookFrom, pickFound, lookupOf}
 use Rattle.graph.specs.Theorems.{storedIn, idOf, Sorted, Exact, Agrees}
 use Rattle.graph.specs.declared.lookup.Found.{Found}
-use Rattle.graph.specs.declared.lookup.Found.the-variants.{At, Absent}
+use Rattle.graph.specs.declared.lookup.Found.the-variants.{Absent}
 use Rattle.graph.proofs.Standing.{stands}
 
 place-same : (m i : ℕ) → place m ≡ place i → m ≡ i

@@ -1,13 +1,12 @@
 -- What a step does to a walk, and that the steps followed to the end are the parent list.
-use Prim.Native.Nat.{ℕ, zero, suc, _≤_, _<_}
+use Prim.Native.Nat.{ℕ, _≤_, _<_}
 use mathlib.Core.List.{List, [], _∷_}
 use mathlib.Core.Bool.{Bool, true, false, not}
-use mathlib.Core.Path.{_≡_, refl, sym, ap, ap₂, subst, _∙_}
+use mathlib.Core.Path.{_≡_, refl, sym, ap, subst, _∙_}
 use mathlib.Core.Logic.{⊎-elim}
 use native.Mathlib.Omega.{arith}
-use lib.Dec.{ltb, leb}
-use borrow.Author.Tests.{le-ltb, ltb-true, leb-false}
-use Rattle.types.specs.Refusals.{refusal}
+use lib.Dec.{ltb}
+use borrow.Author.Tests.{le-ltb, ltb-true}
 use Rattle.types.specs.declared.refusal.Refusal.{Refusal}
 use Rattle.words.proofs.Numbers.{le-or-lt}
 use Rattle.chunk.specs.Index.{absent}
@@ -18,21 +17,21 @@ use Rattle.file.specs.declared.Opening.the-variants.{Open, Refused}
 use Rattle.file.proofs.Opens.{opened as file-opened, refused-named}
 use Rattle.file.proofs.Fitting.{opened-fits, asked-plain}
 use Rattle.commit.specs.Commits.{rowOf}
-use Rattle.commit.specs.Walks.{nextOf, Walked, ends as over, parent, restOf, walkOf, positions, endOf, answerOf, stepOf as fileStep}
+use Rattle.commit.specs.Walks.{nextOf, Walked, ends as over, parent, restOf, walkOf, positions, endOf, answerOf}
 use Rattle.commit.specs.declared.parents.Answer.{Answer}
 use Rattle.commit.specs.declared.parents.Answer.the-variants.{Parent, Refused as Not, End}
 use Rattle.commit.specs.declared.parents.Met.{Met}
 use Rattle.commit.specs.declared.parents.Met.the-variants.{Parent as Meets, Refused as MeetsNo, End as MeetsEnd}
 use Rattle.commit.specs.declared.parents.Next.{Next}
 use Rattle.commit.specs.declared.parents.Phase.{Phase}
-use Rattle.commit.specs.declared.parents.Phase.the-variants.{First, Exhausted}
+use Rattle.commit.specs.declared.parents.Phase.the-variants.{First}
 use Rattle.commit.proofs.Walking.{followMet, rest-follow, step-plain, Told, step-told}
-use Rattle.graph.specs.Chain.{commitsOf, placed, pickRefusal, orElse, partAt, openAt, countAt, commitsIn, fileOf, posOf, opened, asked}
+use Rattle.graph.specs.Chain.{commitsOf, partAt, openAt, countAt, fileOf, posOf, asked}
 use Rattle.graph.specs.Walks.{answerIn, refused, stepBy, pickStep, stepOf}
 use Rattle.graph.specs.Theorems.{Keeps, Follows, ends, stops, goes, Ends, restAt, walkAt, Lists}
 use Rattle.graph.specs.declared.walk.Walk.{Walk}
 use Rattle.graph.specs.declared.walk.Step.{Step}
-use Rattle.graph.proofs.Standing.{stands}
+use Rattle.graph.proofs.Standing.{stands, asked-below}
 use Rattle.graph.proofs.Steps.{step-refused}
 
 -- ── one step ──
@@ -87,7 +86,7 @@ module _ (z : ℕ) (c l : List ℕ) where
   -- ── the steps followed ──
 
   -- two followings of one walk are the same
-  follows-same : {w : Walk} {ps qs : List ℕ} {e d : ℕ} → Follows z c l w ps e → Follows z c l w qs d → (ps ≡ qs) × (e ≡ d)
+  pub follows-same : {w : Walk} {ps qs : List ℕ} {e d : ℕ} → Follows z c l w ps e → Follows z c l w qs d → (ps ≡ qs) × (e ≡ d)
   follows-same (ends a) (ends b) = (refl, refl)
   follows-same (ends a) (stops b) = let y : _≡_ {A = ℕ} 0 1 = cc in absurd (omega arith)
   follows-same (ends a) (goes b y) = let y : _≡_ {A = ℕ} 0 1 = cc in absurd (omega arith)
@@ -98,20 +97,10 @@ module _ (z : ℕ) (c l : List ℕ) where
   follows-same (goes a x) (stops b) = let y : _≡_ {A = ℕ} 0 1 = cc in absurd (omega arith)
   follows-same (goes a x) (goes b y) = let h = follows-same x y in (cc, h .1)
 
-  asked-below : (g : ℕ) → asked z c l g .number ≡ 0 → g < commitsIn z c l
-  unfolding asked orElse pickRefusal
-  asked-below g = go (ltb 0 (opened z c l .number)) (leb (commitsIn z c l) g) refl refl
-    where
-      go : (t u : Bool) → ltb 0 (opened z c l .number) ≡ t → leb (commitsIn z c l) g ≡ u
-          → pickRefusal t (opened z c l) (pickRefusal u (refusal 40 0) (opened z c l)) .number ≡ 0 → g < commitsIn z c l
-      go true u p q e = absurd (omega (arith, ltb-true 0 (opened z c l .number) p))
-      go false true p q e = absurd (omega arith)
-      go false false p q e = leb-false (commitsIn z c l) g q
-
   module _ (g : ℕ) (a : asked z c l g .number ≡ 0) (f : File) (o : openAt z c l (fileOf z c l g) ≡ Open f) where
     below : posOf z c l g < f .commits
     unfolding countAt commitsOf
-    below = rw o at (stands z c l .pos g (asked-below g a))
+    below = rw o at (stands z c l .pos g (asked-below z c l g a))
 
     plain : askRule (partAt z c l (fileOf z c l g)) f (f .commits) (posOf z c l g) ≡ 0
     unfolding openAt
@@ -175,7 +164,7 @@ module _ (z : ℕ) (c l : List ℕ) where
       ⊎-elim
       (λ (h : asked z c l (w .commit .0) .number ≤ 0).
       let a : asked z c l (w .commit .0) .number ≡ 0 = omega arith in
-      let o = stands z c l .opens (w .commit .0) (asked-below (w .commit .0) a) in
+      let o = stands z c l .opens (w .commit .0) (asked-below z c l (w .commit .0) a) in
       let y = lists (w .commit .0) a (o .0) (o .1) .rest (w .phase) in
       record { parents = _; last = _; follows = y; only = λ ps e x. follows-same x y })
       (λ (h : 0 < asked z c l (w .commit .0) .number).

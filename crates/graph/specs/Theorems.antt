@@ -3,6 +3,7 @@ use Prim.Native.Nat.{ℕ, _+_, _≤_, _<_}
 use mathlib.Core.List.{List, [], _∷_}
 use mathlib.Core.Bool.{not}
 use mathlib.Core.Path.{_≡_}
+use denote.Ref.{RefT}
 use Rattle.types.specs.declared.refusal.Refusal.{Refusal}
 use Rattle.list.specs.List.{recordsOf}
 use Rattle.chunk.specs.Index.{absent}
@@ -17,8 +18,9 @@ use Rattle.commit.specs.declared.parents.Answer.the-variants.{Parent, Refused a
 use Rattle.commit.specs.declared.parents.Parent.{Parent as Ancestor}
 use Rattle.commit.specs.declared.parents.Phase.{Phase}
 use Rattle.commit.specs.declared.parents.Phase.the-variants.{First, Exhausted}
-use Rattle.graph.specs.Chain.{partAt, openAt, countAt, firstAt, commitsIn, fileOf, posOf, opened}
+use Rattle.graph.specs.Chain.{partAt, openAt, countAt, firstAt, commitsIn, fileOf, posOf, opened, asked}
 use Rattle.graph.specs.Lookups.{place, lookupOf}
+use Rattle.graph.specs.Questions.{IdPart}
 use Rattle.graph.specs.Walks.{stepOf}
 use Rattle.graph.specs.declared.lookup.Found.{Found}
 use Rattle.graph.specs.declared.lookup.Found.the-variants.{Absent}
@@ -47,6 +49,10 @@ storedIn p (Refused r) i = []
 
 unfoldable pub idOf : ℕ → List ℕ → List ℕ → ℕ → List ℕ
 idOf z c l g = storedIn (partAt z c l (fileOf z c l g)) (openAt z c l (fileOf z c l g)) (posOf z c l g)
+
+-- what `id_at` hands out at a position that is not refused is the id there
+abbrev pub ReadsId : ℕ → RefT (List ℕ) → List ℕ → ℕ → RefT (List ℕ) → Type 0
+ReadsId z c l g r = asked z (c .now) l g .number ≡ 0 → IdPart z c l g r → r .now ≡ idOf z (c .now) l g
 
 -- a chain that opens, with the ids of each file in order
 pub record Sorted (z : ℕ) (c l : List ℕ) : Type 0 where
