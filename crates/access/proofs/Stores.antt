@@ -2,7 +2,7 @@
 use Prim.Native.Nat.{ℕ, zero, suc, _+_, _-_, _*_, _/_, _≤_, _<_}
 use mathlib.Core.List.{List}
 use mathlib.Core.Bool.{Bool, true, false, not}
-use mathlib.Core.Logic.{⊎-elim}
+use mathlib.Core.Logic.{⊎-elim, inl, inr}
 use mathlib.Core.Path.{_≡_, refl, sym, ap, _∙_}
 use native.Mathlib.Omega.{arith}
 use native.Mathlib.Nat.{zero-add, add-zero}
@@ -19,7 +19,7 @@ use Rattle.words.specs.First.{_if_else_}
 use Rattle.file.specs.Table.{opening}
 use Rattle.file.specs.Fits.{fitRule, fanPart, idsPart, Fitted}
 use Rattle.file.specs.Facts.{Opened, Rises}
-use Rattle.access.specs.Lookup.{found, halving, keyOf, upper, lower, refuse, lookupOf, stored, leading, Ordered, Finds, Right}
+use Rattle.access.specs.Lookup.{found, halving, keyOf, upper, lower, refuse, lookupOf, stored, leading, Ordered, Answers, Finds, Right}
 use Rattle.file.specs.declared.File.{File}
 use Rattle.file.specs.declared.Opening.the-variants.{Open}
 use Rattle.access.specs.declared.Found.{Found}
@@ -60,10 +60,11 @@ module _ (l : List ℕ) (f : File) (o : Opened l f) (u : Rises l f) where
   id-within : (i : ℕ) → i < f .commits → i * f .width + f .width ≤ length (idsPart l f)
   id-within i h = omega (arith, ids-long, run-within i (f .commits) (f .width) h)
 
-  module _ (x : List ℕ) (bl : Bytes l) (bx : Bytes x) where
-    bi : Bytes (idsPart l f)
-    bi = bytes-part l (f .oidl) (f .commits * f .width) bl
+  pub stored-long : (i : ℕ) → i < f .commits → length (stored l f i) ≡ f .width
+  unfolding stored
+  stored-long i h = length-part (i * f .width) (f .width) (idsPart l f) (id-within i h)
 
+  module _ (x : List ℕ) (bx : Bytes x) where
     -- for a file that `open` gave a lookup is the plain search
     pub plain : length x ≡ f .width
         → halving (keyOf (f .width) (idsPart l f)) (number x) (lower (fanPart l f) (getD x 0 0)) (upper (fanPart l f) (getD x 0 0)) ≡ lookupOf l f x
@@ -71,10 +72,23 @@ module _ (l : List ℕ) (f : File) (o : Opened l f) (u : Rises l f) where
         ap (λ (w : ℕ). halving (keyOf w (idsPart l f)) (number x) (lower (fanPart l f) (getD x 0 0)) (upper (fanPart l f) (getD x 0 0))) (sym e)
         ∙ look-search l f x 0 (sym (opened-fits l f o)) (omega arith) e _ refl (upper-le (getD x 0 0) (bx 0)) _ refl
 
+    -- so it never refuses an id of the file's width
+    pub answers-in : length x ≡ f .width → Answers (lookupOf l f x)
+    answers-in w = go (lookupOf l f x) refl
+      where
+        go : (r : Found) → lookupOf l f x ≡ r → Answers r
+        go (At p) e = inl (p .0, refl)
+        go Absent e = inr refl
+        go (Refused q) e = absurd (halving-answers (keyOf (f .width) (idsPart l f)) (number x) _ _ q (plain w ∙ e))
+
+  module _ (x : List ℕ) (bl : Bytes l) (bx : Bytes x) where
+    bi : Bytes (idsPart l f)
+    bi = bytes-part l (f .oidl) (f .commits * f .width) bl
+
     sound-same : length x ≡ f .width → (i : ℕ) → lookupOf l f x ≡ found i → (i < f .commits) × (stored l f i ≡ x)
     unfolding stored keyOf
     sound-same e i g =
-        let s = halving-sound (keyOf (f .width) (idsPart l f)) (number x) _ _ i (plain e ∙ g) in
+        let s = halving-sound (keyOf (f .width) (idsPart l f)) (number x) _ _ i (plain x bx e ∙ g) in
         let n : i < f .commits = omega (arith, s .1, upper-le (getD x 0 0) (bx 0)) in
         (n, list-is (idsPart l f) x (i * f .width) (f .width) bi bx e (id-within i n) (s .2))
 
@@ -107,8 +121,7 @@ module _ (l : List ℕ) (f : File) (o : Opened l f) (u : Rises l f) where
           ∙ getD-drop (i * f .width) (idsPart l f) 0 0 ∙ rw add-zero)
 
       length-is : (i : ℕ) → i < f .commits → stored l f i ≡ x → length x ≡ f .width
-      unfolding stored
-      length-is i h e = rw (← e) (length-part (i * f .width) (f .width) (idsPart l f) (id-within i h))
+      length-is i h e = rw (← e) (stored-long i h)
 
       whole : (i : ℕ) → i < f .commits → stored l f i ≡ x → lookupOf l f x ≡ found i
       unfolding stored keyOf
@@ -117,7 +130,7 @@ module _ (l : List ℕ) (f : File) (o : Opened l f) (u : Rises l f) where
           let b = first-is i e in
           let lo : lower (fanPart l f) (getD x 0 0) ≤ i = rw b (d .low i h) in
           let hi : i < upper (fanPart l f) (getD x 0 0) = rw b (d .high i h) in
-          sym (plain w)
+          sym (plain x bx w)
           ∙ halving-whole (keyOf (f .width) (idsPart l f)) (number x) (f .commits) up _ _ i (upper-le (getD x 0 0) (bx 0)) lo hi
           (number-is (idsPart l f) x (i * f .width) (f .width) bi bx w (id-within i h) e)
 
@@ -127,13 +140,17 @@ module _ (l : List ℕ) (f : File) (o : Opened l f) (u : Rises l f) where
             sound = sound;
             whole = whole;
             absent = λ e i h g. (let s = whole i h g in let z : _≡_ {A = ℕ} 0 1 = cc in absurd (omega arith));
-            none = λ h. none h (lookupOf l f x) refl;
+            none = λ h. ⊎-elim (λ a. (let s = sound (a .0) (a .1) in absurd (h (a .0) (s .0) (s .1)))) (λ e. e) (answers-in x bx w);
           }
-        where
-          none : ((i : ℕ) → i < f .commits → stored l f i ≡ x → ⊥) → (r : Found) → lookupOf l f x ≡ r → r ≡ Absent
-          none h (At p) e = let s = sound (p .0) e in absurd (h (p .0) (s .0) (s .1))
-          none h Absent e = refl
-          none h (Refused q) e = absurd (halving-answers (keyOf (f .width) (idsPart l f)) (number x) _ _ q (plain w ∙ e))
+
+-- an id that is stored is made of bytes
+pub stored-bytes : (l : List ℕ) (f : File) (i : ℕ) → Bytes l → Bytes (stored l f i)
+unfolding stored
+stored-bytes l f i bl = bytes-part (idsPart l f) (i * f .width) (f .width) (bytes-part l (f .oidl) (f .commits * f .width) bl)
+
+-- an opened file never refuses an id of its width
+pub answers : (l : List ℕ) (f : File) (x : List ℕ) → opening l ≡ Open f → Bytes x → length x ≡ f .width → Answers (lookupOf l f x)
+answers l f x o bx w = answers-in l f (opened true l f o) (rising l f o) x bx w
 
 -- a result that is the definition's has the definition's theorem
 pub both : (l : List ℕ) (f : File) (x : List ℕ) → Bytes l → Bytes x → (r : Found) → r ≡ lookupOf l f x → (r ≡ lookupOf l f x) × Right l f x r

@@ -3,6 +3,7 @@ use Prim.Native.Nat.{ℕ, zero, suc, _+_, _-_, _*_, _/_, _≤_, _<_}
 use mathlib.Core.List.{List}
 use mathlib.Core.Bool.{Bool, true, false, not}
 use mathlib.Core.Path.{_≡_}
+use mathlib.Core.Logic.{_⊎_}
 use lib.ListN.{length, getD, take, drop}
 use lib.Dec.{ltb, leb, eqb}
 use Rattle.types.specs.Refusals.{refusal}
@@ -92,6 +93,10 @@ pub record Ordered (l : List ℕ) (f : File) : Type 0 where
   pub rises : (i : ℕ) → i + 1 < f .commits → keyOf (f .width) (idsPart l f) i < keyOf (f .width) (idsPart l f) (i + 1)
   pub low : (i : ℕ) → i < f .commits → lower (fanPart l f) (leading l f i) ≤ i
   pub high : (i : ℕ) → i < f .commits → i < upper (fanPart l f) (leading l f i)
+
+-- r says where an id is, or that it is not there: it is no refusal
+abbrev pub Answers : Found → Type 0
+Answers r = ((i : ℕ) × (r ≡ found i)) ⊎ (r ≡ Absent)
 
 -- r is what a lookup of x should answer: it finds x exactly if the file stores it, at the position that stores it
 pub record Finds (l : List ℕ) (f : File) (x : List ℕ) (r : Found) : Type 0 where

@@ -17,8 +17,10 @@ use Rattle.words.proofs.Rows.{hit, miss, pass}
 use Rattle.chunk.specs.Index.{absent}
 use Rattle.file.specs.Fits.{askRule, edgePart}
 use Rattle.commit.specs.Commits.{extraOf, rowOf}
-use Rattle.commit.specs.Walks.{stop, done, onward, edgeRule, extraNext, refuseNext, edgeNext, secondNext, aloneNext, firstNext, nextOf, Walked, ends, parent, extraWalk, refuseWalk, edgeFrom, wordsIn, edgeWalk, secondWalk, aloneWalk, firstWalk, restOf, counted, countFrom, stepBy, refusedStep, refuseStep, stepOf, countOf, totalBy, refuseTotal, totalOf}
+use Rattle.commit.specs.Walks.{stop, done, onward, edgeRule, extraNext, refuseNext, edgeNext, secondNext, aloneNext, firstNext, nextOf, Walked, ends, parent, extraWalk, refuseWalk, edgeFrom, wordsIn, edgeWalk, secondWalk, aloneWalk, firstWalk, restOf, counted, countFrom, answerOf, stepBy, refusedStep, refuseStep, stepOf, countOf, totalBy, refuseTotal, totalOf}
 use Rattle.file.specs.declared.File.{File}
+use Rattle.commit.specs.declared.parents.Answer.{Answer}
+use Rattle.commit.specs.declared.parents.Answer.the-variants.{Parent as Answered, Refused as AnsweredNo, End as AnsweredEnd}
 use Rattle.commit.specs.declared.parents.Step.{Step}
 use Rattle.commit.specs.declared.parents.Total.{Total}
 use Rattle.commit.specs.declared.parents.Total.the-variants.{Refused as Short}
@@ -140,11 +142,11 @@ mostFrom e Second = wordsIn e + 2
 mostFrom e (Edge k) = wordsIn e - k + 1
 mostFrom e Exhausted = 0
 
--- what a step says of itself: a parent is met with fewer steps left than n, and a refusal has a number
+-- what a step says of itself: a parent is met with fewer steps left than n, a refusal has a number, and it and the end leave the walk exhausted
 unfoldable pub Fair : List ℕ → ℕ → Met → Phase → Type 0
 Fair e n (Parent q) s = mostFrom e s < n
-Fair e n (Refused r) s = 0 < r
-Fair e n End s = Unit {0}
+Fair e n (Refused r) s = (0 < r) × (s ≡ Exhausted)
+Fair e n End s = s ≡ Exhausted
 
 module _ (t : Bool) (e : List ℕ) where
   extra-fair : (x : ExtraEdge) (k n : ℕ) → k < wordsIn e → wordsIn e - k + 1 ≤ n → Fair e n (extraNext x k .met) (extraNext x k .phase)
@@ -159,20 +161,20 @@ module _ (t : Bool) (e : List ℕ) where
       go : (m : ℕ) → edgeRule t e k ≡ m
           → Fair e n (refuseNext m (extraNext (extraOf (be 4 e (4 * k))) k) .met) (refuseNext m (extraNext (extraOf (be 4 e (4 * k))) k) .phase)
       go zero q = let h : 4 * k + 4 ≤ length e = edge-there t e k 0 (sym q) (omega arith) in extra-fair (extraOf (be 4 e (4 * k))) k n (omega arith) g
-      go (suc m) q = omega arith
+      go (suc m) q = (omega arith, refl)
 
   pub next-fair : (a b : ParentEdge) (s : Phase) → Fair e (mostFrom e s) (nextOf a b t e s .met) (nextOf a b t e s .phase)
   unfolding nextOf Fair mostFrom firstNext aloneNext secondNext
-  next-fair None None First = tt
-  next-fair None (GraphPosition q) First = omega arith
-  next-fair None (ExtraEdgeIndex j) First = omega arith
+  next-fair None None First = refl
+  next-fair None (GraphPosition q) First = (omega arith, refl)
+  next-fair None (ExtraEdgeIndex j) First = (omega arith, refl)
   next-fair (GraphPosition p) b First = omega arith
-  next-fair (ExtraEdgeIndex k) b First = omega arith
-  next-fair a None Second = tt
+  next-fair (ExtraEdgeIndex k) b First = (omega arith, refl)
+  next-fair a None Second = refl
   next-fair a (GraphPosition q) Second = omega arith
   next-fair a (ExtraEdgeIndex k) Second = edge-fair k (wordsIn e + 2) (omega arith)
   next-fair a b (Edge k) = edge-fair k (wordsIn e - k + 1) (omega arith)
-  next-fair a b Exhausted = tt
+  next-fair a b Exhausted = refl
 
 -- a turn of a count: x is what the step gave at phase s
 module _ (a b : ParentEdge) (t : Bool) (e : List ℕ) (s : Phase) (x : Next) (d : x ≡ nextOf a b t e s) where
@@ -207,7 +209,7 @@ module _ (a b : ParentEdge) (t : Bool) (e : List ℕ) (s : Phase) (x : Next) (d 
 
     pub count-stop : (r : ℕ) → x .met ≡ Refused r → Stopped r ≡ countFrom n (restOf a b t e s)
     unfolding countFrom Fair
-    count-stop r h = named r (subst (λ (m : Met). Fair e (mostFrom e s) m (x .phase)) h fair) ∙ sym (ap (countFrom n) (rest-stop r h))
+    count-stop r h = named r (subst (λ (m : Met). Fair e (mostFrom e s) m (x .phase)) h fair .0) ∙ sym (ap (countFrom n) (rest-stop r h))
 
     pub count-end : x .met ≡ End → Count n ≡ countFrom n (restOf a b t e s)
     unfolding countFrom counted
@@ -232,6 +234,29 @@ module _ (l : List ℕ) (f : File) (i : ℕ) (s : Phase) where
       → stepBy i (nextOf (rowOf l f i .first) (rowOf l f i .second) (not (absent (f .edge))) (edgePart l f) s) ≡ stepOf l f i s
   unfolding stepOf refuseStep
   step-plain e = rw e
+
+-- what a step of a file's commit answers is fair too
+unfoldable pub Told : Answer → Phase → Type 0
+Told (Answered q) s = Unit {0}
+Told (AnsweredNo r) s = (0 < r .number) × (s ≡ Exhausted)
+Told AnsweredEnd s = s ≡ Exhausted
+
+met-told : (e : List ℕ) (i n : ℕ) (m : Met) (s : Phase) → Fair e n m s → Told (answerOf i m) s
+unfolding Fair Told answerOf
+met-told e i n (Parent q) s h = tt
+met-told e i n (Refused r) s h = h
+met-told e i n End s h = h
+
+pub step-told : (l : List ℕ) (f : File) (i : ℕ) (s : Phase) → Told (stepOf l f i s .answer) (stepOf l f i s .next)
+unfolding stepOf refuseStep Told
+step-told l f i s = go (askRule l f (f .commits) i)
+  where
+    x : Next
+    x = nextOf (rowOf l f i .first) (rowOf l f i .second) (not (absent (f .edge))) (edgePart l f) s
+
+    go : (m : ℕ) → Told (refuseStep m (stepBy i x) .answer) (refuseStep m (stepBy i x) .next)
+    go zero = met-told (edgePart l f) i _ (x .met) (x .phase) (next-fair (not (absent (f .edge))) (edgePart l f) (rowOf l f i .first) (rowOf l f i .second) s)
+    go (suc m) = (omega arith, refl)
 
 -- the number of its parents
 refuse-total : (m : ℕ) (rest : Total) → 0 < m → Short (refusal m 0) ≡ refuseTotal m rest

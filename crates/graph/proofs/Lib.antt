@@ -5,3 +5,6 @@ pub mod Steps
 pub mod Looking
 pub mod Lists
 pub mod Doors
+pub mod Standing
+pub mod Exactly
+pub mod Following

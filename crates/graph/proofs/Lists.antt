@@ -16,7 +16,7 @@ use Rattle.commit.specs.declared.parents.Total.{Total}
 use Rattle.commit.specs.declared.parents.Total.the-variants.{Count as Whole, Refused as Short}
 use Rattle.graph.specs.Chain.{partAt, openAt, asked}
 use Rattle.graph.specs.Passes.{Holds}
-use Rattle.graph.specs.Lists.{parentsIn, totalIn, listBy, parentsAt, listOf, heldOf}
+use Rattle.graph.specs.Lists.{walkIn, totalIn, listBy, walkedAt, parentsAt, listOf, heldOf}
 use Rattle.graph.specs.declared.survey.Spot.{Spot}
 use Rattle.graph.proofs.Spots.{file-is, pos-is}
 
@@ -44,7 +44,7 @@ module _ (z : ℕ) (c l : List ℕ) (g : ℕ) (xs : List ℕ) (q : Refusal) (e :
     told = rw (le-ltb 0 (asked z c l g .number) (omega (arith, number-is)), file-is z c l g r k, pos-is z c l g r k, k .inner, b)
 
     named : parentsAt z c l g ≡ positions (walkOf p (r .inner) (r .pos))
-    unfolding parentsAt parentsIn
+    unfolding walkedAt walkIn
     named = rw (file-is z c l g r k, pos-is z c l g r k, k .inner, b)
 
     pub list-told : (t a : Total) (out : List ℕ) → t ≡ fileList p (r .inner) (r .pos) (length xs) → out ≡ fileHeld p (r .inner) (r .pos) xs

@@ -4,3 +4,4 @@ pub mod Questions
 pub mod Walks
 pub mod Lookups
 pub mod Lists
+pub mod Theorems

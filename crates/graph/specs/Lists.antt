@@ -1,20 +1,20 @@
 -- The parent list on a chain: the opening, then 40, then the walk's refusals, then 55; 50 to 55 carry the commit's file and its position there.
 use Prim.Native.Nat.{ℕ}
-use mathlib.Core.List.{List, []}
+use mathlib.Core.List.{List}
 use lib.Dec.{ltb}
 use lib.ListN.{length}
 use Rattle.file.specs.declared.Opening.{Opening}
 use Rattle.file.specs.declared.Opening.the-variants.{Open, Refused}
-use Rattle.commit.specs.Walks.{positions, walkOf}
+use Rattle.commit.specs.Walks.{Walked, ends, positions, walkOf}
 use Rattle.commit.specs.Lists.{pickTotal, heldBy, listOf as fileList}
 use Rattle.commit.specs.declared.parents.Total.{Total}
 use Rattle.commit.specs.declared.parents.Total.the-variants.{Count as Whole, Refused as Short}
 use Rattle.graph.specs.Chain.{placed, partAt, openAt, fileOf, posOf, asked}
 
--- the parents of a file's commit i, as its walk answers them
-unfoldable pub parentsIn : List ℕ → Opening → ℕ → List ℕ
-parentsIn p (Open f) i = positions (walkOf p f i)
-parentsIn p (Refused r) i = []
+-- the walk of a file's commit i; nothing where the file does not open
+unfoldable pub walkIn : List ℕ → Opening → ℕ → Walked
+walkIn p (Open f) i = walkOf p f i
+walkIn p (Refused r) i = ends 0
 
 -- an answer of file k
 unfoldable pub totalIn : ℕ → Total → Total
@@ -26,9 +26,12 @@ listBy k p (Open f) i m = totalIn k (fileList p f i m)
 listBy k p (Refused r) i m = Short (placed k r)
 
 module _ (z : ℕ) (c l : List ℕ) (g : ℕ) where
-  -- the parents of position g
-  unfoldable pub parentsAt : List ℕ
-  parentsAt = parentsIn (partAt z c l (fileOf z c l g)) (openAt z c l (fileOf z c l g)) (posOf z c l g)
+  -- the walk of position g, and its parents
+  unfoldable pub walkedAt : Walked
+  walkedAt = walkIn (partAt z c l (fileOf z c l g)) (openAt z c l (fileOf z c l g)) (posOf z c l g)
+
+  abbrev pub parentsAt : List ℕ
+  parentsAt = positions walkedAt
 
   -- the answer for a list of m entries, and what the list xs holds after it
   unfoldable pub listOf : ℕ → Total
