@@ -1,84 +1,50 @@
-// Answers questions on chains, as standard input asks: whole chains, single parent steps, lookups and positions.
-// A record there is a kind, a length of 4 bytes and that many bytes: the list's length in 4 bytes, the list, the question's own fields, the chain.
-// 'w' has no fields: the opening, a line for each position and the one behind the last, then where lookup finds the id of each.
-// 's' has a position (4 bytes), a phase (1) and an EDGE number (8): one step. 'f' has a length (4) and an id: lookup. 'p' has a position (4).
+// Answers questions on chains, as standard input asks: whole chains, parent steps, lookups and positions.
+// A record there is a kind, a length of 4 bytes and that many bytes: the list behind its length in 4 bytes, the question behind its own, the chain.
+// 'w' asks nothing more: the opening, a line for each position and the one behind the last, then where lookup finds the id of each.
+// 's' asks for steps, each a position (4 bytes), a phase (1) and an EDGE number (8). 'f' looks an id up. 'p' asks for positions, 4 bytes each.
 // What it reads and what it must print is made by `python3 tests/chains.py crates/chains`.
 mod show;
 mod walk;
 mod whole;
 
-use cases::print::print;
 use cases::record::read;
 use cases::record::room;
-use cases::step::phase_of;
-use graph::lookup::find;
-use graph::walk::Walk;
 use show::found;
-use show::position;
-use types::graph::Position;
-use walk::step;
+use show::positions;
+use walk::steps;
 use whole::whole;
 use words::big::be32;
-use words::big::be64;
 use words::part::part;
 
-fn answer_step(s: &[u8], list: &[u8]) -> bool {
-    if s.len() < 13 {
-        return false;
-    }
-    let commit = Position(be32(s, 0));
-    let phase = phase_of(s[4], be64(s, 5) as usize);
-    step(&s[13..], list, Walk { commit, phase });
-    print(b"\n");
-    true
+// The part behind its length in 4 bytes. Empty where that many are not there.
+fn lead<'a>(s: &'a [u8]) -> &'a [u8] {
+    part(s, 4, be32(s, 0) as usize, 1)
 }
 
-fn answer_find(s: &[u8], list: &[u8]) -> bool {
-    if s.len() < 4 {
-        return false;
+// What follows such a part.
+fn rest<'a>(s: &'a [u8]) -> &'a [u8] {
+    let from = 4 + (be32(s, 0) as usize);
+    if s.len() < from {
+        return &s[0..0];
     }
-    let n = be32(s, 0) as usize;
-    if s.len() - 4 < n {
-        return false;
-    }
-    let from = 4 + n;
-    found(find(&s[from..], list, part(s, 4, n, 1)));
-    print(b"\n");
-    true
+    &s[from..]
 }
 
-fn answer_position(s: &[u8], list: &[u8]) -> bool {
-    if s.len() < 4 {
-        return false;
-    }
-    position(&s[4..], list, Position(be32(s, 0)));
-    print(b"\n");
-    true
-}
-
-// Answers a question of this kind, whose own fields and chain are `s`. Says whether the kind is known and the fields are whole.
-fn ask(kind: u8, s: &[u8], list: &[u8]) -> bool {
+// Answers a question on a chain. Says whether its kind is known.
+fn ask(kind: u8, chain: &[u8], list: &[u8], asked: &[u8]) -> bool {
     match kind {
-        b'w' => whole(s, list),
-        b's' => return answer_step(s, list),
-        b'f' => return answer_find(s, list),
-        b'p' => return answer_position(s, list),
+        b'w' => whole(chain, list),
+        b's' => steps(chain, list, asked),
+        b'f' => found(chain, list, asked),
+        b'p' => positions(chain, list, asked),
         _ => return false,
     }
     true
 }
 
-// Answers one record. Says whether it is one.
 fn answer(kind: u8, s: &[u8]) -> bool {
-    if s.len() < 4 {
-        return false;
-    }
-    let n = be32(s, 0) as usize;
-    if s.len() - 4 < n {
-        return false;
-    }
-    let from = 4 + n;
-    ask(kind, &s[from..], part(s, 4, n, 1))
+    let more = rest(s);
+    ask(kind, rest(more), lead(s), lead(more))
 }
 
 // Reads one record and answers it. Says whether there may be more.

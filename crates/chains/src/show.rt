@@ -8,11 +8,13 @@ use commit::Asked;
 use commit::Commit;
 use commit::ParentEdge;
 use graph::lookup::Found;
+use graph::lookup::find;
 use graph::positions::commit_at;
 use graph::positions::id_at;
 use graph::positions::tree_at;
 use graph::positions::which;
 use types::graph::Position;
+use words::big::be32;
 
 fn asking(a: Asking) {
     match a {
@@ -67,8 +69,9 @@ fn asked(a: Asked) {
     }
 }
 
-pub fn found(f: Found) {
-    match f {
+// Prints the line of a lookup.
+pub fn found(chain: &[u8], list: &[u8], id: &[u8]) {
+    match find(chain, list, id) {
         Found::At(p) => {
             print(b"at");
             number(p.0 as u64);
@@ -76,6 +79,7 @@ pub fn found(f: Found) {
         Found::Absent => print(b"absent"),
         Found::Refused(r) => refusal(r),
     }
+    print(b"\n");
 }
 
 // Prints what the questions by position answer: which refusal, the id, the tree, the commit.
@@ -86,4 +90,14 @@ pub fn position(chain: &[u8], list: &[u8], pos: Position) {
     bytes(id_at(chain, list, pos));
     bytes(tree_at(chain, list, pos));
     asked(commit_at(chain, list, pos));
+}
+
+// Prints a line for each position that is asked, 4 bytes each.
+pub fn positions(chain: &[u8], list: &[u8], asked: &[u8]) {
+    let mut at = 0;
+    while 4 <= asked.len() - at {
+        position(chain, list, Position(be32(asked, at)));
+        print(b"\n");
+        at += 4;
+    }
 }

@@ -1,13 +1,16 @@
-// The parents of a commit: the whole walk, and a single step.
+// The parents of a commit: the whole walk, and single steps.
 use cases::print::number;
 use cases::print::print;
 use cases::print::refusal;
 use cases::step::answer;
 use cases::step::phase;
+use cases::step::phase_of;
 use commit::parents::Answer;
 use commit::parents::Phase;
 use graph::walk::Walk;
 use types::graph::Position;
+use words::big::be32;
+use words::big::be64;
 
 // Prints the parents of a commit, then a dot, or the refusal behind those that were met. The turns are counted, for no contract says that they end.
 pub fn walk(chain: &[u8], list: &[u8], commit: Position) {
@@ -46,11 +49,23 @@ fn stands(w: Walk) {
     phase(p);
 }
 
-// Prints what one step answers, and the walk after it.
-pub fn step(chain: &[u8], list: &[u8], from: Walk) {
+// Prints the line of a step: what it answers, and the walk after it.
+fn step(chain: &[u8], list: &[u8], from: Walk) {
     let x = from.step(chain, list);
     let told = x.answer;
     let next = x.next;
     answer(told);
     stands(next);
+    print(b"\n");
+}
+
+// Prints a line for each step that is asked: a position (4 bytes), a phase (1) and an EDGE number (8).
+pub fn steps(chain: &[u8], list: &[u8], asked: &[u8]) {
+    let mut at = 0;
+    while 13 <= asked.len() - at {
+        let commit = Position(be32(asked, at));
+        let phase = phase_of(asked[at + 4], be64(asked, at + 5) as usize);
+        step(chain, list, Walk { commit, phase });
+        at += 13;
+    }
 }

@@ -7,7 +7,6 @@ use cases::print::print;
 use cases::print::refusal;
 use graph::init::Opening;
 use graph::init::open;
-use graph::lookup::find;
 use graph::positions::id_at;
 use types::graph::Position;
 
@@ -34,8 +33,7 @@ fn seek(chain: &[u8], list: &[u8], pos: Position) {
     print(b"id");
     number(pos.0 as u64);
     print(b" ");
-    found(find(chain, list, id_at(chain, list, pos)));
-    print(b"\n");
+    found(chain, list, id_at(chain, list, pos));
 }
 
 // The same for the positions up to `n`.
