@@ -4,53 +4,7 @@
 git makes histories in a folder that is removed again, and writes the commit-graph file of each. What must be printed of these is what git
 says of the commits themselves, without their graph. Then copies are spoiled, one thing at a time, with the answer next to each, as document
 01 has it: nothing of the library is run here. Every run makes the same bytes. Numbers in the comments are those of the refusals."""
-import hashlib
-import os
-import subprocess
-import sys
-import tempfile
-
-ZERO = bytes(4)
-NONE = 0x70000000
-EDGE = 0x80000000  # in a parent word: the rest is an EDGE index
-LAST = 0x80000000  # in an EDGE word: no more to follow
-FIRST, SECOND, RUN, EXHAUSTED = range(4)
-WHO = "A U Thor <author@example.com>"
-OWN = {"GIT_CONFIG_NOSYSTEM": "1", "GIT_CONFIG_GLOBAL": os.devnull, "LC_ALL": "C", "TZ": "UTC"}
-SETTINGS = "gc.auto=0", "commitGraph.generationVersion=1", "core.commitGraph=false"
-
-requests = []
-answers = []
-
-
-def be(width, n):
-    return n.to_bytes(width, "big")
-
-
-def ask(kind, data, *lines):
-    requests.append(kind + be(4, len(data)) + data)
-    answers.extend(lines)
-
-
-# Histories, made by git.
-
-
-def git(folder, *words, stdin=None, graph=False):
-    clean = {k: v for k, v in os.environ.items() if not k.startswith("GIT_")}
-    settings = [w for s in SETTINGS[: 2 if graph else 3] for w in ("-c", s)]
-    run = subprocess.run(["git", *settings, *words], cwd=folder, env=clean | OWN | {"HOME": folder}, input=stdin, stdout=subprocess.PIPE, check=True)
-    return run.stdout
-
-
-def stream(commits):
-    """What fast-import reads: for each commit its time and its parents, which are numbers of earlier ones."""
-    out = []
-    for k, (time, parents) in enumerate(commits):
-        text = f"commit {k}\n"
-        out.append(f"commit refs/heads/c{k}\nmark :{k + 1}\nauthor {WHO} {time} +0000\ncommitter {WHO} {time} +0000\ndata {len(text)}\n{text}")
-        out += [f"{'merge' if j else 'from'} :{p + 1}\n" for j, p in enumerate(parents)]
-        out.append(f"M 100644 inline file\ndata {len(text)}\n{text}\n")
-    return "".join(out).encode()
+from made import EDGE, EXHAUSTED, FIRST, LAST, NONE, RUN, SECOND, Repository, ask, be, fan, file, folder, with_words, without, write
 
 
 class History:
@@ -58,20 +12,13 @@ class History:
     the positions of its parents, as git says them."""
 
     def __init__(self, commits):
-        with tempfile.TemporaryDirectory() as folder:
-            git(folder, "init", "-q", "--bare", ".")
-            git(folder, "fast-import", "--quiet", stdin=stream(commits))
-            log = git(folder, "log", "--all", "--format=%H %T %ct %P").decode().splitlines()
-            refs = git(folder, "for-each-ref", "--format=%(refname:short) %(objectname)").decode().split()
-            git(folder, "commit-graph", "write", "--reachable", graph=True)
-            with open(os.path.join(folder, "objects", "info", "commit-graph"), "rb") as f:
-                self.data = f.read()
-        rows = {words[0]: words[1:] for words in map(str.split, log)}
-        place = {name: k for k, name in enumerate(sorted(rows))}
-        self.at = {int(r[1:]): place[name] for r, name in zip(refs[::2], refs[1::2])}
-        self.parents = {place[name]: [place[p] for p in row[2:]] for name, row in rows.items()}
-        self.words = {place[name]: f"{name} {row[0]} {row[1]} {self.generation(place[name])}" for name, row in rows.items()}
-        assert len(rows) == len(self.at) == len(commits)
+        with Repository(commits) as made:
+            made.git("commit-graph", "write", "--reachable", graph=True)
+            self.data = made.read("commit-graph")
+        place = {name: k for k, name in enumerate(sorted(made.rows))}
+        self.at = {k: place[name] for k, name in made.names.items()}
+        self.parents = {place[name]: [place[p] for p in row[2:]] for name, row in made.rows.items()}
+        self.words = {place[name]: f"{name} {row[0]} {row[1]} {self.generation(place[name])}" for name, row in made.rows.items()}
 
     def generation(self, k):
         return 1 + max([self.generation(p) for p in self.parents[k]], default=0)
@@ -90,23 +37,6 @@ def chunks(data):
     return {data[8 + 12 * k : 12 + 12 * k]: data[starts[k] : starts[k + 1]] for k in range(data[6])}
 
 
-def file(parts):
-    at = [8 + 12 * (len(parts) + 1)]
-    for body in parts.values():
-        at.append(at[-1] + len(body))
-    index = b"".join(name + be(8, start) for name, start in zip([*parts, ZERO], at))
-    data = b"CGPH\1\1" + bytes([len(parts), 0]) + index + b"".join(parts.values())
-    return data + hashlib.sha1(data).digest()
-
-
-def with_words(parts, chunk, words):
-    """The same chunks with other words at some places of one chunk."""
-    body = bytearray(parts[chunk])
-    for at, n in words.items():
-        body[at : at + 4] = be(4, n)
-    return {**parts, chunk: bytes(body)}
-
-
 def with_parents(parts, k, first=None, second=None):
     """The same chunks with another first or second parent word of commit k."""
     words = {36 * k + 20: first, 36 * k + 24: second}
@@ -117,10 +47,6 @@ def with_edge(parts, *words, cut=0):
     """The same chunks with these words in EDGE, less `cut` bytes."""
     body = b"".join(be(4, n) for n in words)
     return {**parts, b"EDGE": body[: len(body) - cut]}
-
-
-def without(parts, chunk):
-    return {name: body for name, body in parts.items() if name != chunk}
 
 
 # Whole files.
@@ -276,9 +202,8 @@ def other_ids(h):
         (near[:5] + near[4:5], "BAD 4"),  # a repeated id, which the halving meets at 5: it looks at 3, then there
         (near[:1] + near[4:] + near[1:4], "BAD 1"),  # the id at 1 is above that at 3, the middle, so the halving leaves it out
     ):
-        fan = b"".join(be(4, sum(i[0] <= k for i in other)) for k in range(256))
         lines = [i.hex() + line[40:] for i, line in zip(other, h.lines())]
-        whole(file({**h.parts, b"OIDF": fan, b"OIDL": b"".join(other)}), lines, sought)
+        whole(file({**h.parts, b"OIDF": fan(other), b"OIDL": b"".join(other)}), lines, sought)
 
 
 def unopened(h):
@@ -342,17 +267,13 @@ def forged_steps(h):
 
 
 def main():
-    if len(sys.argv) != 2:
-        sys.exit(__doc__)
+    place = folder(__doc__)
     by_git()
     h = Small()
     whole(h.data, h.lines())
     for cases in same_answers, first_words, parent_words, edge_refused, edge_words, dates, other_ids, unopened, plain_steps, forged_steps:
         cases(h)
-    with open(os.path.join(sys.argv[1], "stdin"), "wb") as out:
-        out.write(b"".join(requests))
-    with open(os.path.join(sys.argv[1], "stdout"), "w", encoding="ascii", newline="\n") as out:
-        out.write("".join(line + "\n" for line in answers))
+    write(place)
 
 
 main()

@@ -3,30 +3,7 @@
 
 A well-formed file is built and one thing in it is spoiled. The answer stands next to each case, as document 01 has it: nothing of the
 library is run here. Every run makes the same bytes. Numbers in the comments are those of the refusals, at the place where they apply."""
-import hashlib
-import os
-import sys
-
-ZERO = bytes(4)
-NONE = 0x70000000
-LAST = 0x80000000
-
-requests = []
-answers = []
-
-
-def be(width, n):
-    return n.to_bytes(width, "big")
-
-
-def noise(seed, size):
-    """Bytes without a pattern, the same in every run."""
-    return b"".join(hashlib.sha1(be(4, seed) + be(4, k)).digest() for k in range(size // 20 + 1))[:size]
-
-
-def ask(kind, data, *lines):
-    requests.append(kind + be(4, len(data)) + data)
-    answers.extend(lines)
+from made import LAST, NONE, ZERO, ask, be, fan, file, folder, noise, offsets, with_words, write
 
 
 def opens(data, commits, bases=0):
@@ -49,7 +26,7 @@ def chunks(n, bases=0, edge=0):
     """The chunks of a well-formed file, in git's order: n commits without parents, `edge` words in EDGE, `bases` ids in BASE."""
     ids = sorted(noise(k, 20) for k in range(n))
     parts = {
-        b"OIDF": b"".join(be(4, sum(i[0] <= k for i in ids)) for k in range(256)),
+        b"OIDF": fan(ids),
         b"OIDL": b"".join(ids),
         b"CDAT": b"".join(noise(1000 + k, 20) + be(4, NONE) + be(4, NONE) + be(4, 1 << 2) + be(4, k) for k in range(n)),
     }
@@ -60,31 +37,9 @@ def chunks(n, bases=0, edge=0):
     return parts
 
 
-def offsets(parts, gap=0):
-    """The offset of each entry of the index, the last included."""
-    at = [8 + 12 * (len(parts) + 1) + gap]
-    for body in parts.values():
-        at.append(at[-1] + len(body))
-    return at
-
-
-def file(parts, bases=0, head=b"CGPH\1\1", count=None, ids={}, at={}, gap=0, tail=20):
-    """A file of these chunks. To spoil it: another C in `count`, other ids and offsets of entries in `ids` and `at`, `gap` bytes between
-    the index and the chunks, `tail` bytes after them. The trailer is the SHA-1 of what stands before it, spoiled or not."""
-    names = dict(enumerate([*parts, ZERO])) | ids
-    starts = dict(enumerate(offsets(parts, gap))) | at
-    index = b"".join(names[k] + be(8, starts[k]) for k in range(len(parts) + 1))
-    counts = bytes([len(parts) if count is None else count, bases])
-    data = head + counts + index + bytes(gap) + b"".join(parts.values())
-    return data + (hashlib.sha1(data).digest() * 2)[:tail]
-
-
 def with_fan(parts, entries):
     """The same chunks with other numbers in some entries of the fan."""
-    fan = bytearray(parts[b"OIDF"])
-    for k, n in entries.items():
-        fan[4 * k : 4 * k + 4] = be(4, n)
-    return {**parts, b"OIDF": bytes(fan)}
+    return with_words(parts, b"OIDF", {4 * k: n for k, n in entries.items()})
 
 
 def insert(parts, k, chunk, body):
@@ -233,7 +188,7 @@ def sizes():
     refused(file(FOUR, at={4: offsets(FOUR)[4] - 1}), 18)  # one shorter, 21 left
 
 
-def fan():
+def fans():
     # one entry above N, which the entry after it falls below
     for k in 1, 128, 254, 255:
         refused(file(with_fan(FIVE, {k - 1: 3}), 1), 20, k)
@@ -353,16 +308,12 @@ def other_names():
 
 
 def main():
-    if len(sys.argv) != 2:
-        sys.exit(__doc__)
-    for cases in well_formed, header, index_size, index_ids, no_chunks, index_offsets, bases, sizes, fan, commits, two_faults, any_bytes:
+    place = folder(__doc__)
+    for cases in well_formed, header, index_size, index_ids, no_chunks, index_offsets, bases, sizes, fans, commits, two_faults, any_bytes:
         cases()
     for cases in prefixes, names, other_names:
         cases()
-    with open(os.path.join(sys.argv[1], "stdin"), "wb") as out:
-        out.write(b"".join(requests))
-    with open(os.path.join(sys.argv[1], "stdout"), "w", encoding="ascii", newline="\n") as out:
-        out.write("".join(line + "\n" for line in answers))
+    write(place)
 
 
 main()

@@ -1,9 +1,9 @@
 // A line for each commit of a file, and whether the counts of parents agree with the walks.
-use super::print::print;
-use super::print::print_id;
-use super::print::print_number;
-use super::print::print_refusal;
 use super::walk::walk;
+use cases::print::hex;
+use cases::print::number;
+use cases::print::print;
+use cases::print::refusal;
 use commit::Asked;
 use commit::commit_at;
 use commit::parents::Total;
@@ -38,18 +38,18 @@ fn same_total(a: Total, b: Total) -> bool {
 
 // Prints the line of a commit. Says whether the walk met as many parents as the count says.
 fn line(s: &[u8], f: File, pos: Position) -> bool {
-    print_id(access::id_at(s, f, pos));
+    hex(access::id_at(s, f, pos));
     print(b" ");
-    print_id(tree_at(s, f, pos));
+    hex(tree_at(s, f, pos));
     let asked = commit_at(s, f, pos);
     match asked {
         Asked::Commit(c) => {
-            print_number(c.time);
-            print_number(c.generation as u64);
+            number(c.time);
+            number(c.generation as u64);
         }
         Asked::Refused(r) => {
             print(b" ");
-            print_refusal(r);
+            refusal(r);
         }
     }
     let met = walk(s, f, pos);

@@ -3,24 +3,35 @@
 // 's' is a position (4 bytes), a phase (1), an EDGE number (8) and a file: one step.
 // What it reads and what it must print is made by `python3 tests/answers.py crates/answers`.
 mod lines;
-mod print;
 mod seek;
 mod walk;
 
+use cases::print::number;
+use cases::print::print;
+use cases::print::refusal;
+use cases::record::read;
+use cases::record::room;
+use cases::step::phase_of;
 use file::File;
 use file::Opening;
 use file::init::open;
-use libc::STDIN_FILENO;
 use lines::lines;
-use print::print;
-use print::print_checked;
-use print::print_refusal;
 use seek::seek;
 use types::file::Position;
-use walk::phase_of;
 use walk::step;
 use words::big::be32;
 use words::big::be64;
+
+// Ends the line of a check: `first` is the first commit of `n` that it found bad, or `n`.
+fn print_checked(first: u32, n: u32) {
+    if first < n {
+        print(b" BAD");
+        number(first as u64);
+    } else {
+        print(b" OK");
+    }
+    print(b"\n");
+}
 
 fn answer_file(s: &[u8], f: File) {
     let counted = lines(s, f);
@@ -36,7 +47,7 @@ fn answer_open(s: &[u8]) {
     match o {
         Opening::Open(f) => answer_file(s, f),
         Opening::Refused(r) => {
-            print_refusal(r);
+            refusal(r);
             print(b"\n");
         }
     }
@@ -52,7 +63,7 @@ fn answer_step(s: &[u8]) -> bool {
     let o = open(file);
     match o {
         Opening::Open(f) => step(file, f, pos, phase),
-        Opening::Refused(r) => print_refusal(r),
+        Opening::Refused(r) => refusal(r),
     }
     print(b"\n");
     true
@@ -70,19 +81,13 @@ fn answer(kind: u8, s: &[u8]) -> bool {
 
 // Reads one record and answers it. Says whether there may be more.
 fn record() -> bool {
-    let mut head = [0u8; 5];
-    if io::read_full(STDIN_FILENO, &mut head) < 5 {
+    let mut bytes = room();
+    let r = read(&mut bytes);
+    if !r.there {
         return false;
     }
-    let n = be32(&head, 1) as usize;
-    if 60_000 < n {
-        return false;
-    }
-    let mut bytes = io::large_buffer();
-    if io::read_full(STDIN_FILENO, &mut bytes[..n]) < n {
-        return false;
-    }
-    answer(head[0], &bytes[..n])
+    let n = r.size;
+    answer(r.kind, &bytes[..n])
 }
 
 // The turns are counted, for nothing says that the input ends.

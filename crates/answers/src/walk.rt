@@ -1,7 +1,9 @@
 // The parents of a commit: the whole walk on one line, and a single step.
-use super::print::print;
-use super::print::print_number;
-use super::print::print_refusal;
+use cases::print::number;
+use cases::print::print;
+use cases::print::refusal;
+use cases::step::answer;
+use cases::step::phase;
 use commit::parents::Answer;
 use commit::parents::Phase;
 use commit::parents::Total;
@@ -20,13 +22,13 @@ pub fn walk(s: &[u8], f: File, pos: Position) -> Total {
         let next = x.next;
         match answer {
             Answer::Parent(p) => {
-                print_number(p.position.0 as u64);
+                number(p.position.0 as u64);
                 phase = next;
                 n += 1;
             }
             Answer::Refused(r) => {
                 print(b" ");
-                print_refusal(r);
+                refusal(r);
                 return Total::Refused(r);
             }
             Answer::End => {
@@ -37,40 +39,11 @@ pub fn walk(s: &[u8], f: File, pos: Position) -> Total {
     Total::Count(n)
 }
 
-// The phase of a number: 0 first, 1 second, 2 EDGE, any other exhausted.
-pub fn phase_of(kind: u8, k: usize) -> Phase {
-    match kind {
-        0 => Phase::First,
-        1 => Phase::Second,
-        2 => Phase::Edge(k),
-        _ => Phase::Exhausted,
-    }
-}
-
-fn print_phase(phase: Phase) {
-    match phase {
-        Phase::First => print(b" first"),
-        Phase::Second => print(b" second"),
-        Phase::Edge(k) => {
-            print(b" edge");
-            print_number(k as u64);
-        }
-        Phase::Exhausted => print(b" exhausted"),
-    }
-}
-
 // Prints what one step answers, and the phase after it.
-pub fn step(s: &[u8], f: File, pos: Position, phase: Phase) {
-    let x = step_at(s, f, pos, phase);
-    let answer = x.answer;
+pub fn step(s: &[u8], f: File, pos: Position, from: Phase) {
+    let x = step_at(s, f, pos, from);
+    let told = x.answer;
     let next = x.next;
-    match answer {
-        Answer::Parent(p) => {
-            print(b"parent");
-            print_number(p.position.0 as u64);
-        }
-        Answer::Refused(r) => print_refusal(r),
-        Answer::End => print(b"end"),
-    }
-    print_phase(next);
+    answer(told);
+    phase(next);
 }

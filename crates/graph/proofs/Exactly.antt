@@ -23,7 +23,7 @@ use Rattle.access.proofs.Halving.{found-same}
 use Rattle.access.proofs.Stores.{stored-long, stored-bytes, answers, both}
 use Rattle.graph.specs.Chain.{commitsOf, startAt, partAt, openAt, countAt, firstAt, commitsIn, fileOf, posOf, opened}
 use Rattle.graph.specs.Lookups.{findIn, place, shift, findAt, lookFrom, pickFound, lookupOf}
-use Rattle.graph.specs.Theorems.{storedIn, idOf, Sorted, Exact, Agrees}
+use Rattle.graph.specs.Theorems.{storedIn, idOf, Sorted, Exact, Right as Promised, Agrees}
 use Rattle.graph.specs.declared.lookup.Found.{Found}
 use Rattle.graph.specs.declared.lookup.Found.the-variants.{Absent}
 use Rattle.graph.proofs.Standing.{stands}
@@ -164,3 +164,8 @@ module _ (z : ℕ) (c l : List ℕ) where
         let t : Exact z c l (idOf z c l g) (lookupOf z c l (idOf z c l g)) = exact (idOf z c l g) (id-bytes g h (o .0) (o .1) (o .2)) (id-long g h (o .0) (o .1) (o .2)) in
         let r = t .whole g h refl in
         record { at = r .0; found = r .1; same = t .sound (r .0) (r .1); below = r .2; lowest = t .lowest (r .0) (r .1) }
+
+  -- a lookup's answer, and what it promises beside
+  pub promised : (x : List ℕ) → Bytes c → Bytes x → (r : Found) → r ≡ lookupOf z c l x → (r ≡ lookupOf z c l x) × Promised z c l x r
+  unfolding Promised
+  promised x bc bx r e = (e, λ s w. rw e (exact s bc x bx w))

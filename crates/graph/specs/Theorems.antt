@@ -3,6 +3,7 @@ use Prim.Native.Nat.{ℕ, _+_, _≤_, _<_}
 use mathlib.Core.List.{List, [], _∷_}
 use mathlib.Core.Bool.{not}
 use mathlib.Core.Path.{_≡_}
+use lib.ListN.{length}
 use denote.Ref.{RefT}
 use Rattle.types.specs.declared.refusal.Refusal.{Refusal}
 use Rattle.list.specs.List.{recordsOf}
@@ -68,6 +69,10 @@ pub record Exact (z : ℕ) (c l x : List ℕ) (r : Found) : Type 0 where
   pub whole : (g : ℕ) → g < commitsIn z c l → idOf z c l g ≡ x → (h : ℕ) × (r ≡ place h) × (h ≤ g)
   pub absent : r ≡ Absent → (g : ℕ) → g < commitsIn z c l → idOf z c l g ≡ x → ⊥
   pub none : ((g : ℕ) → g < commitsIn z c l → idOf z c l g ≡ x → ⊥) → r ≡ Absent
+
+-- of a chain whose files are in order, asked for an id of 20 bytes
+unfoldable pub Right : ℕ → List ℕ → List ℕ → List ℕ → Found → Type 0
+Right z c l x r = Sorted z c l → length x ≡ 20 → Exact z c l x r
 
 -- a lookup of the id at position g finds the lowest position that stores it
 pub record Agrees (z : ℕ) (c l : List ℕ) (g : ℕ) : Type 0 where

@@ -15,6 +15,7 @@ ghost use Prim.Native.Nat.{ℕ, _+_, _<_};
 ghost use Rattle.access.specs.Lookup.{found};
 ghost use Rattle.graph.specs.Chain.{Listed};
 ghost use Rattle.graph.specs.Lookups.{notedOf, Looked, lookupOf};
+ghost use Rattle.graph.specs.Theorems.{Right};
 
 pub enum Found {
     At(Position),
@@ -91,7 +92,8 @@ fn look(chain: &[u8], list: &[u8], z: u32, n: u32, x: &[u8]) -> Search
 
 // The position of the id `x`.
 pub fn find(chain: &[u8], list: &[u8], x: &[u8]) -> Found
-    ensures { λ r. ⌜ r ≡ lookupOf 32 (now (chain .entry)) (now (list .entry)) (now (x .entry)) ⌝ }
+    ensures is { λ r. ⌜ r ≡ lookupOf 32 (now (chain .entry)) (now (list .entry)) (now (x .entry)) ⌝ }
+    ensures right { λ r. ⌜ Right 32 (now (chain .entry)) (now (list .entry)) (now (x .entry)) r ⌝ }
 {
     let m = check(list, chain.len());
     if 0 < m.number {

@@ -1,46 +1,28 @@
 // Opens files and reads names, as standard input asks, and prints a line for each answer.
 // A record there is a kind, a length of 4 bytes and that many bytes: 'f' is a file, 'c' a file of which every prefix is opened, 'n' a file's name.
 // What it reads and what it must print is made by `python3 tests/opens.py crates/opens`.
+use cases::print::hex;
+use cases::print::number;
+use cases::print::print;
+use cases::print::refusal;
+use cases::record::read;
+use cases::record::room;
 use file::File;
 use file::Opening;
 use file::init::open;
-use file::name::read;
-use libc::STDIN_FILENO;
-use libc::STDOUT_FILENO;
+use file::name;
 use types::refusal::Refusal;
-use words::big::be32;
-
-fn print(s: &[u8]) {
-    io::write_all(STDOUT_FILENO, s);
-}
-
-fn print_number(n: u64) {
-    print(b" ");
-    io::print_decimal(STDOUT_FILENO, n);
-}
 
 fn print_file(f: File) {
     print(b"open");
-    print_number(f.commits as u64);
-    print_number(f.bases as u64);
+    number(f.commits as u64);
+    number(f.bases as u64);
     print(b"\n");
 }
 
 fn print_refusal(r: Refusal) {
-    print(b"refused");
-    print_number(r.number as u64);
-    print_number(r.file as u64);
-    print_number(r.place);
+    refusal(r);
     print(b"\n");
-}
-
-// Prints a hash as 40 digits.
-fn print_hash(h: [u8; 20]) {
-    let mut i = 0;
-    while i < 20 {
-        io::print_hex(STDOUT_FILENO, h[i] as u64, 2);
-        i += 1;
-    }
 }
 
 fn answer_file(s: &[u8]) {
@@ -61,12 +43,12 @@ fn answer_prefixes(s: &[u8]) {
 }
 
 fn answer_name(s: &[u8]) {
-    let n = read(s);
+    let n = name::read(s);
     print(b"name");
-    print_number(n.kind as u64);
+    number(n.kind as u64);
     print(b" ");
     let hash = n.hash;
-    print_hash(hash);
+    hex(&hash);
     print(b"\n");
 }
 
@@ -83,19 +65,13 @@ fn answer(kind: u8, s: &[u8]) -> bool {
 
 // Reads one record and answers it. Says whether there may be more.
 fn record() -> bool {
-    let mut head = [0u8; 5];
-    if io::read_full(STDIN_FILENO, &mut head) < 5 {
+    let mut bytes = room();
+    let r = read(&mut bytes);
+    if !r.there {
         return false;
     }
-    let n = be32(&head, 1) as usize;
-    if 60_000 < n {
-        return false;
-    }
-    let mut bytes = io::large_buffer();
-    if io::read_full(STDIN_FILENO, &mut bytes[..n]) < n {
-        return false;
-    }
-    answer(head[0], &bytes[..n])
+    let n = r.size;
+    answer(r.kind, &bytes[..n])
 }
 
 // The turns are counted, for nothing says that the input ends.

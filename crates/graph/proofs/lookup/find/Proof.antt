@@ -3,12 +3,15 @@ use native.Mathlib.Omega.{arith}
 use denote.Ref.{now}
 use Rattle.graph.proofs.Views.{list-listed}
 use Rattle.graph.proofs.Looking.{opened-list, opened-pass, find-refused, find-width, find-at, find-absent}
+use Rattle.graph.proofs.Exactly.{promised}
 use borrow.Author.Needs.{needs}
 use Rattle.graph.proofs.lookup.find.Statement.{statement}
 use Rattle.graph.proofs.lookup.find.Tie as tie
 
 returns : tie.Need-returns
-returns c = find-refused 32 (now (c .before .before .before .before .before .before .args .chain)) (now (c .before .before .before .before .before .before .args .list)) (now (c .before .before .before .before .before .before .args .x)) _ (opened-list 32 (now (c .before .before .before .before .before .before .args .chain)) (now (c .before .before .before .before .before .before .args .list)) _ (c .before .before .check .ensures) (c .if1 .taken)) (c .if1 .taken)
+returns c =
+    promised 32 (now (c .before .before .before .before .before .before .args .chain)) (now (c .before .before .before .before .before .before .args .list)) (now (c .before .before .before .before .before .before .args .x)) (λ i. c .before .before .before .before .before .shared-slice-known .given i .fits) (λ i. c .before .before .before .shared-slice-known3 .given i .fits) _
+    (find-refused 32 (now (c .before .before .before .before .before .before .args .chain)) (now (c .before .before .before .before .before .before .args .list)) (now (c .before .before .before .before .before .before .args .x)) _ (opened-list 32 (now (c .before .before .before .before .before .before .args .chain)) (now (c .before .before .before .before .before .before .args .list)) _ (c .before .before .check .ensures) (c .if1 .taken)) (c .if1 .taken))
 
 cast-n : tie.Need-cast-n
 cast-n c = omega (arith, list-listed 32 (now (c .before .before .before .before .before .before .args .chain)) (now (c .before .before .before .before .before .before .args .list)) _ (c .before .before .check .ensures) (c .if1 .left) .few)
@@ -17,16 +20,24 @@ look-requires : tie.Need-look-requires
 look-requires c κs = list-listed 32 (now (c .before .before .before .before .before .before .args .chain)) (now (c .before .before .before .before .before .before .args .list)) _ (c .before .before .check .ensures) (c .if1 .left)
 
 returns-2 : tie.Need-returns-2
-returns-2 c = find-refused 32 (now (c .before .before .before .before .before .before .before .before .before .before .before .args .chain)) (now (c .before .before .before .before .before .before .before .before .before .before .before .args .list)) (now (c .before .before .before .before .before .before .before .before .before .before .before .args .x)) _ (opened-pass 32 (now (c .before .before .before .before .before .before .before .before .before .before .before .args .chain)) (now (c .before .before .before .before .before .before .before .before .before .before .before .args .list)) _ _ (c .before .before .before .before .before .before .before .check .ensures) (c .before .before .before .before .before .if1 .left) (c .before .before .before .before .look .ensures .refusal)) (c .if2 .taken)
+returns-2 c =
+    promised 32 (now (c .before .before .before .before .before .before .before .before .before .before .before .args .chain)) (now (c .before .before .before .before .before .before .before .before .before .before .before .args .list)) (now (c .before .before .before .before .before .before .before .before .before .before .before .args .x)) (λ i. c .before .before .before .before .before .before .before .before .before .before .shared-slice-known .given i .fits) (λ i. c .before .before .before .before .before .before .before .before .shared-slice-known3 .given i .fits) _
+    (find-refused 32 (now (c .before .before .before .before .before .before .before .before .before .before .before .args .chain)) (now (c .before .before .before .before .before .before .before .before .before .before .before .args .list)) (now (c .before .before .before .before .before .before .before .before .before .before .before .args .x)) _ (opened-pass 32 (now (c .before .before .before .before .before .before .before .before .before .before .before .args .chain)) (now (c .before .before .before .before .before .before .before .before .before .before .before .args .list)) _ _ (c .before .before .before .before .before .before .before .check .ensures) (c .before .before .before .before .before .if1 .left) (c .before .before .before .before .look .ensures .refusal)) (c .if2 .taken))
 
 returns-3 : tie.Need-returns-3
-returns-3 c = find-width 32 (now (c .before .before .before .before .before .before .before .before .before .before .before .before .before .args .chain)) (now (c .before .before .before .before .before .before .before .before .before .before .before .before .before .args .list)) (now (c .before .before .before .before .before .before .before .before .before .before .before .before .before .args .x)) _ (opened-pass 32 (now (c .before .before .before .before .before .before .before .before .before .before .before .before .before .args .chain)) (now (c .before .before .before .before .before .before .before .before .before .before .before .before .before .args .list)) _ _ (c .before .before .before .before .before .before .before .before .before .check .ensures) (c .before .before .before .before .before .before .before .if1 .left) (c .before .before .before .before .before .before .look .ensures .refusal)) (c .before .before .if2 .left) (c .before .if3 .taken) _ (c .at .ensures)
+returns-3 c =
+    promised 32 (now (c .before .before .before .before .before .before .before .before .before .before .before .before .before .args .chain)) (now (c .before .before .before .before .before .before .before .before .before .before .before .before .before .args .list)) (now (c .before .before .before .before .before .before .before .before .before .before .before .before .before .args .x)) (λ i. c .before .before .before .before .before .before .before .before .before .before .before .before .shared-slice-known .given i .fits) (λ i. c .before .before .before .before .before .before .before .before .before .before .shared-slice-known3 .given i .fits) _
+    (find-width 32 (now (c .before .before .before .before .before .before .before .before .before .before .before .before .before .args .chain)) (now (c .before .before .before .before .before .before .before .before .before .before .before .before .before .args .list)) (now (c .before .before .before .before .before .before .before .before .before .before .before .before .before .args .x)) _ (opened-pass 32 (now (c .before .before .before .before .before .before .before .before .before .before .before .before .before .args .chain)) (now (c .before .before .before .before .before .before .before .before .before .before .before .before .before .args .list)) _ _ (c .before .before .before .before .before .before .before .before .before .check .ensures) (c .before .before .before .before .before .before .before .if1 .left) (c .before .before .before .before .before .before .look .ensures .refusal)) (c .before .before .if2 .left) (c .before .if3 .taken) _ (c .at .ensures))
 
 returns-4 : tie.Need-returns-4
-returns-4 c = find-at 32 (now (c .before .before .before .before .before .before .before .before .before .before .before .before .before .args .chain)) (now (c .before .before .before .before .before .before .before .before .before .before .before .before .before .args .list)) (now (c .before .before .before .before .before .before .before .before .before .before .before .before .before .args .x)) _ (opened-pass 32 (now (c .before .before .before .before .before .before .before .before .before .before .before .before .before .args .chain)) (now (c .before .before .before .before .before .before .before .before .before .before .before .before .before .args .list)) _ _ (c .before .before .before .before .before .before .before .before .before .check .ensures) (c .before .before .before .before .before .before .before .if1 .left) (c .before .before .before .before .before .before .look .ensures .refusal)) (c .before .before .if2 .left) (c .before .if3 .left) _ (c .before .before .before .before .before .before .look .ensures .answer (let h = c .before .before .if2 .left in omega arith)) (c .if4 .taken)
+returns-4 c =
+    promised 32 (now (c .before .before .before .before .before .before .before .before .before .before .before .before .before .args .chain)) (now (c .before .before .before .before .before .before .before .before .before .before .before .before .before .args .list)) (now (c .before .before .before .before .before .before .before .before .before .before .before .before .before .args .x)) (λ i. c .before .before .before .before .before .before .before .before .before .before .before .before .shared-slice-known .given i .fits) (λ i. c .before .before .before .before .before .before .before .before .before .before .shared-slice-known3 .given i .fits) _
+    (find-at 32 (now (c .before .before .before .before .before .before .before .before .before .before .before .before .before .args .chain)) (now (c .before .before .before .before .before .before .before .before .before .before .before .before .before .args .list)) (now (c .before .before .before .before .before .before .before .before .before .before .before .before .before .args .x)) _ (opened-pass 32 (now (c .before .before .before .before .before .before .before .before .before .before .before .before .before .args .chain)) (now (c .before .before .before .before .before .before .before .before .before .before .before .before .before .args .list)) _ _ (c .before .before .before .before .before .before .before .before .before .check .ensures) (c .before .before .before .before .before .before .before .if1 .left) (c .before .before .before .before .before .before .look .ensures .refusal)) (c .before .before .if2 .left) (c .before .if3 .left) _ (c .before .before .before .before .before .before .look .ensures .answer (let h = c .before .before .if2 .left in omega arith)) (c .if4 .taken))
 
 returns-5 : tie.Need-returns-5
-returns-5 c = find-absent 32 (now (c .before .before .before .before .before .before .before .before .before .before .before .before .before .args .chain)) (now (c .before .before .before .before .before .before .before .before .before .before .before .before .before .args .list)) (now (c .before .before .before .before .before .before .before .before .before .before .before .before .before .args .x)) _ (opened-pass 32 (now (c .before .before .before .before .before .before .before .before .before .before .before .before .before .args .chain)) (now (c .before .before .before .before .before .before .before .before .before .before .before .before .before .args .list)) _ _ (c .before .before .before .before .before .before .before .before .before .check .ensures) (c .before .before .before .before .before .before .before .if1 .left) (c .before .before .before .before .before .before .look .ensures .refusal)) (c .before .before .if2 .left) (c .before .if3 .left) _ (c .before .before .before .before .before .before .look .ensures .answer (let h = c .before .before .if2 .left in omega arith)) (c .if4 .left)
+returns-5 c =
+    promised 32 (now (c .before .before .before .before .before .before .before .before .before .before .before .before .before .args .chain)) (now (c .before .before .before .before .before .before .before .before .before .before .before .before .before .args .list)) (now (c .before .before .before .before .before .before .before .before .before .before .before .before .before .args .x)) (λ i. c .before .before .before .before .before .before .before .before .before .before .before .before .shared-slice-known .given i .fits) (λ i. c .before .before .before .before .before .before .before .before .before .before .shared-slice-known3 .given i .fits) _
+    (find-absent 32 (now (c .before .before .before .before .before .before .before .before .before .before .before .before .before .args .chain)) (now (c .before .before .before .before .before .before .before .before .before .before .before .before .before .args .list)) (now (c .before .before .before .before .before .before .before .before .before .before .before .before .before .args .x)) _ (opened-pass 32 (now (c .before .before .before .before .before .before .before .before .before .before .before .before .before .args .chain)) (now (c .before .before .before .before .before .before .before .before .before .before .before .before .before .args .list)) _ _ (c .before .before .before .before .before .before .before .before .before .check .ensures) (c .before .before .before .before .before .before .before .if1 .left) (c .before .before .before .before .before .before .look .ensures .refusal)) (c .before .before .if2 .left) (c .before .if3 .left) _ (c .before .before .before .before .before .before .look .ensures .answer (let h = c .before .before .if2 .left in omega arith)) (c .if4 .left))
 
 pub find-spec : {M : Type 1} → statement M
 find-spec =

@@ -1,0 +1,25 @@
+-- `chains::whole::lines` meets its contract.
+use Prim.Native.Nat.{_≤_, _-_}
+use borrow.Author.Needs.{needs}
+use Rattle.chains.proofs.whole.lines.Statement.{statement}
+use Rattle.chains.proofs.whole.lines.Tie as tie
+
+abbrev Inv-loop : tie.InvT-loop
+Inv-loop chain list n i₀ i = i ≤ n
+
+abbrev μ-loop : tie.MeasureT-loop
+μ-loop chain list n i₀ i = n - i
+
+pub lines-spec : {M : Type 1} → statement M
+lines-spec =
+    tie.close
+    (tie.spec
+    Inv-loop
+    μ-loop
+    (λ c. search needs)
+    (λ c κs. search needs)
+    (λ c. search needs)
+    (λ c. search needs)
+    (λ c. search needs)
+    (λ c κs. search needs)
+    (λ c. search needs))
