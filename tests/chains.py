@@ -85,6 +85,11 @@ def records(files):
     return b"".join(record(len(data), 1, data[-20:].rjust(20, b"\0")) for data in files)
 
 
+def untouched(n):
+    """So many entries of a list as they were before, and the one behind the list."""
+    return ["_"] * (n + 1)
+
+
 class Chain:
     """Files in order. A position is that of a commit when the rows of all files are counted through."""
 
@@ -151,6 +156,20 @@ class Chain:
                 return [*words, "." if answer == "end" else answer]
             words.append(answer.split()[1])
 
+    def door(self, g, phase, number=0):
+        """The same through the second door, which changes the walk in place: to what the step hands back, and a refusal ends it."""
+        answer, phase, number = self.step(g, phase, number)
+        return (answer, EXHAUSTED, 0) if answer.startswith("refused") else (answer, phase, number)
+
+    def listed(self, g, size):
+        """The count of the parents, and in a list of so many entries the parents and what stood behind them; or a refusal, and what stood
+        there. The last entry is behind the list."""
+        *parents, end = self.walk(g)
+        if end == "." and size < len(parents):
+            end = refusal(55, *self.spots[g])
+        held = parents if end == "." else []
+        return " ".join([f"count {len(held)}" if end == "." else end, *held, *untouched(size - len(held))])
+
 
 def run(k, i, edge, number):
     """The step at an EDGE number, for commit i of file k."""
@@ -171,7 +190,7 @@ def question(kind, files, named, asked, *lines):
 
 
 def whole(c, named=None):
-    lines = [" ".join([c.position(g), "parents", *c.walk(g)]) for g in range(c.n + 1)]
+    lines = [" ".join([c.position(g), "parents", *c.walk(g), "list", c.listed(g, 4)]) for g in range(c.n + 1)]
     ids = [c.stored[k].rows[i].id for k, i in c.spots] + [b""]
     found = [f"id {g} {c.find(x)}" for g, x in enumerate(ids)]
     question(b"w", c.files, records(c.files) if named is None else named, b"", f"open {c.n}", *lines, *found)
@@ -182,13 +201,22 @@ def forged(g, phase, number=0):
     return be(4, g) + bytes([phase]) + be(8, number)
 
 
+def stepped(g, answer, phase, number=0):
+    """The words of a step from a walk of the commit at g."""
+    return f"{answer} walk {g} {PHASES[phase]}" + (f" {number}" if phase == RUN else "")
+
+
 def steps(c, *walks):
-    """One step from each of these walks: a position, a phase and, for some, an EDGE number."""
-    lines = []
-    for w in walks:
-        answer, phase, number = c.step(*w)
-        lines.append(f"{answer} walk {w[0]} {PHASES[phase]}" + (f" {number}" if phase == RUN else ""))
+    """One step from each of these walks, by both doors: a position, a phase and, for some, an EDGE number."""
+    lines = [f"{stepped(w[0], *c.step(*w))} door {stepped(w[0], *c.door(*w))}" for w in walks]
     question(b"s", c.files, records(c.files), b"".join(forged(*w) for w in walks), *lines)
+
+
+def lists(c, *asked):
+    """The parent list for each of these: a position, and how many entries are lent."""
+    assert all(size <= 80 for _, size in asked)
+    lines = [f"list {g} {size} {c.listed(g, size)}" for g, size in asked]
+    question(b"l", c.files, records(c.files), b"".join(be(4, g) + be(4, size) for g, size in asked), *lines)
 
 
 def find(c, x):
@@ -202,7 +230,8 @@ def positions(c, *asked):
 def refused(files, named, *why):
     """A whole chain that is refused: so is every question on it."""
     r = refusal(*why)
-    question(b"w", files, named, b"", r, f"position 0 {r} empty empty {r} parents {r}", f"id 0 {r}")
+    line = " ".join([f"position 0 {r} empty empty {r} parents {r} list {r}", *untouched(4)])
+    question(b"w", files, named, b"", r, line, f"id 0 {r}")
 
 
 turns = itertools.count()
@@ -211,13 +240,16 @@ turns = itertools.count()
 def refused_too(files, named, *why):
     """The same by one question, each in its turn. Its own checks come later: an id of 19 bytes, or the highest position."""
     r, g = refusal(*why), 2**32 - 1
-    turn = next(turns) % 4
+    turn = next(turns) % 5
     if turn == 0:
-        question(b"s", files, named, forged(g, RUN, 3), f"{r} walk {g} exhausted")
+        after = stepped(g, r, EXHAUSTED)
+        question(b"s", files, named, forged(g, RUN, 3), f"{after} door {after}")
     elif turn == 1:
         question(b"f", files, named, bytes(19), r)
     elif turn == 2:
         question(b"p", files, named, be(4, g), f"position {g} {r} empty empty {r}")
+    elif turn == 3:
+        question(b"l", files, named, be(4, g) + be(4, 2), " ".join([f"list {g} 2 {r}", *untouched(2)]))
     else:
         refused(files, named, *why)
 
@@ -387,7 +419,7 @@ def sizes(c):
     for named in b"", good[:31]:
         refused(c.files, named, 30)
     for named in b"", bytes(1), bytes(31), bytes(33), bytes(63), bad[:31], bad + b"\0", good[:33], good[:-1], good + b"\0":
-        for _ in range(4):
+        for _ in range(5):
             refused_too([], named, 30)
 
 
@@ -447,7 +479,7 @@ def opened(c):
         refused(files, records(files), number, 1, place)
     # by every question, and in each file; of two that are refused the first answers, and 31 and 32 come before both
     bad, worse = file(with_words(parts, b"OIDF", {4 * 7: 9}), bases), file(parts, bases, at={0: 0})
-    for at in 0, 1, 1, 1, 1, 2:
+    for at in 0, 1, 1, 1, 1, 1, 2:
         files = [*c.files[:at], bad, *c.files[at + 1 :]]
         refused_too(files, records(files), 20, at, 8)
     for files, why in ([bad, worse, data], (20, 0, 8)), ([data, worse, bad], (9, 1, 0)):
@@ -535,6 +567,41 @@ def once_each(c, k, i):
         whole(c.with_file(k, edge=other))
 
 
+# Parent lists.
+
+
+def every_list(c):
+    """For each commit a list with no entry, one too few, as many as parents, and one more; for two of them 80. Behind the commits 40."""
+    counts = [len(c.walk(g)) - 1 for g in range(c.n)]
+    assert {0, 1, 2, 3} < set(counts)
+    sizes = [(g, size) for g, n in enumerate(counts) for size in sorted({0, max(n - 1, 0), n, n + 1})]
+    lists(c, *sizes, *((counts.index(n), 80) for n in (0, max(counts))), *((g, size) for g in (c.n, c.n + 1, 2**32 - 1) for size in (0, 3)))
+
+
+def refused_lists(c, k, i):
+    """50 to 54 for commit i of file k come before 55 and write nothing, however many parents were met: lists for fewer, as many and more."""
+    g, edge = c.at(k, i), c.stored[k].edge
+    spoiled = [c.but(k, i, first=first, second=second) for first, second in ((NONE, 3), (NONE, EDGE + 1), (EDGE, EDGE + 1))]
+    spoiled += [c.with_file(k, edge=other) for other in (None, edge[:-4], edge[:-1])]
+    assert [c.walk(g)[-1] for c in spoiled] == [refusal(number, k, i) for number in (50, 50, 51, 52, 53, 54)]
+    assert [len(c.walk(g)) - 1 for c in spoiled] == [0, 0, 0, 1, 3, 3]
+    for c in spoiled:
+        lists(c, *((g, size) for size in (*range(len(c.walk(g)) + 1), 80)))
+
+
+def long_lists():
+    """A second parent in EDGE that is the last one, and more parents than the table counts or than the longest list holds."""
+    rows, words = [row(1)], []
+    for n in 2, 66, 80, 81:
+        parents = [1000 * n + j for j in range(n)]
+        rows.append(row(n, first=parents[0], second=EDGE + len(words)))
+        words += [*parents[1:-1], LAST + parents[-1]]
+    c = Chain(stored(row(2)), stored(*rows, edge=b"".join(be(4, w) for w in words)))
+    counts = [len(c.walk(g)) - 1 for g in range(c.n)]
+    assert sorted(counts) == [0, 0, 2, 66, 80, 81]
+    lists(c, *((g, size) for g, n in enumerate(counts) for size in (0, n - 1, n, n + 1, 80) if 0 <= size <= 80))
+
+
 def dates(c, k, i):
     """The date words at their ends."""
     for generation, time in (1, 12884901893), (2**30 - 1, 2**34 - 1), (0, 0):
@@ -571,6 +638,10 @@ def main():
     for cases in far_steps, spoiled_words, spoiled_edge, dates:
         cases(two, 1, octopus(two, 1))
     once_each(three, 2, octopus(three, 2))
+    for c in two, three, eight:
+        every_list(c)
+    refused_lists(two, 1, octopus(two, 1))
+    long_lists()
     write(place)
 
 

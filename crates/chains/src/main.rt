@@ -1,14 +1,18 @@
-// Answers questions on chains, as standard input asks: whole chains, parent steps, lookups and positions.
+// Answers questions on chains, as standard input asks: whole chains, parent steps, parent lists, lookups and positions.
 // A record there is a kind, a length of 4 bytes and that many bytes: the list behind its length in 4 bytes, the question behind its own, the chain.
 // 'w' asks nothing more: the opening, a line for each position and the one behind the last, then where lookup finds the id of each.
-// 's' asks for steps, each a position (4 bytes), a phase (1) and an EDGE number (8). 'f' looks an id up. 'p' asks for positions, 4 bytes each.
+// 's' asks for steps, each a position (4 bytes), a phase (1) and an EDGE number (8): by value, and through the second door.
+// 'l' asks for parent lists, each a position (4 bytes) and how many entries the list has (4, at most 80).
+// 'f' looks an id up. 'p' asks for positions, 4 bytes each.
 // What it reads and what it must print is made by `python3 tests/chains.py crates/chains`.
+mod list;
 mod show;
 mod walk;
 mod whole;
 
 use cases::record::read;
 use cases::record::room;
+use list::lists;
 use show::found;
 use show::positions;
 use walk::steps;
@@ -35,6 +39,7 @@ fn ask(kind: u8, chain: &[u8], list: &[u8], asked: &[u8]) -> bool {
     match kind {
         b'w' => whole(chain, list),
         b's' => steps(chain, list, asked),
+        b'l' => lists(chain, list, asked),
         b'f' => found(chain, list, asked),
         b'p' => positions(chain, list, asked),
         _ => return false,

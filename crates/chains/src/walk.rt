@@ -7,7 +7,9 @@ use cases::step::phase;
 use cases::step::phase_of;
 use commit::parents::Answer;
 use commit::parents::Phase;
+use graph::walk::Step;
 use graph::walk::Walk;
+use graph::walk::through_door;
 use types::graph::Position;
 use words::big::be32;
 use words::big::be64;
@@ -49,13 +51,19 @@ fn stands(w: Walk) {
     phase(p);
 }
 
-// Prints the line of a step: what it answers, and the walk after it.
-fn step(chain: &[u8], list: &[u8], from: Walk) {
-    let x = from.step(chain, list);
+// Prints a step: what it answers, and the walk after it.
+fn stepped(x: Step) {
     let told = x.answer;
     let next = x.next;
     answer(told);
     stands(next);
+}
+
+// Prints the line of a step: by value, then through the second door.
+fn step(chain: &[u8], list: &[u8], from: Walk) {
+    stepped(from.step(chain, list));
+    print(b" door ");
+    stepped(through_door(from, chain, list));
     print(b"\n");
 }
 

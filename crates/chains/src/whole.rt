@@ -1,4 +1,5 @@
 // A whole chain: its opening, a line for each position, then where lookup finds the id of each.
+use super::list::listed;
 use super::show::found;
 use super::show::position;
 use super::walk::walk;
@@ -10,11 +11,13 @@ use graph::init::open;
 use graph::positions::id_at;
 use types::graph::Position;
 
-// Prints the line of a position.
+// Prints the line of a position; a list of 4 entries is lent for its parents.
 fn line(chain: &[u8], list: &[u8], pos: Position) {
     position(chain, list, pos);
     print(b" parents");
     walk(chain, list, pos);
+    print(b" list");
+    listed(chain, list, pos, 4);
     print(b"\n");
 }
 

@@ -1,0 +1,18 @@
+-- `chains::list::listed` meets its contract.
+use native.Mathlib.Omega.{arith}
+use lib.ListN.{length-take}
+use borrow.Author.Needs.{needs}
+use Rattle.chains.proofs.list.listed.Statement.{statement}
+use Rattle.chains.proofs.list.listed.Tie as tie
+
+pub listed-spec : {M : Type 1} → statement M
+listed-spec =
+    tie.close
+    (tie.spec
+    (λ c. search needs)
+    (λ c. search needs)
+    (λ c. simp length-take (omega arith))
+    (λ c κs. search needs)
+    (λ c κs. search needs)
+    (λ c κs. search needs)
+    (λ c. search needs))
