@@ -278,6 +278,14 @@ EIGHT = [
 ]
 
 
+def parent_words(parents, words):
+    """Both parent words. More than two parents go into EDGE, behind the words that it has."""
+    if len(parents) <= 2:
+        return [*parents, NONE, NONE][:2]
+    words += [*parents[1:-1], LAST + parents[-1]]
+    return parents[0], EDGE + len(words) - len(parents) + 1
+
+
 def said(rows, inside, place, bases):
     """A file of these ids, from what git says of them."""
 
@@ -287,11 +295,7 @@ def said(rows, inside, place, bases):
     stored, words = [], []
     for name in inside:
         tree, time, *parents = rows[name]
-        parents = [place[p] for p in parents]
-        first, second = [*parents, NONE, NONE][:2]
-        if len(parents) > 2:
-            second = EDGE + len(words)
-            words += [*parents[1:-1], LAST + parents[-1]]
+        first, second = parent_words([place[p] for p in parents], words)
         stored.append(Row(bytes.fromhex(name), bytes.fromhex(tree), generation(name), int(time), first, second))
     return Stored(stored, b"".join(be(4, w) for w in words) or None, tuple(bases))
 
@@ -645,4 +649,5 @@ def main():
     write(place)
 
 
-main()
+if __name__ == "__main__":
+    main()

@@ -17,7 +17,7 @@ use Rattle.words.proofs.Rows.{hit, miss, pass}
 use Rattle.chunk.specs.Index.{absent}
 use Rattle.file.specs.Fits.{askRule, edgePart}
 use Rattle.commit.specs.Commits.{extraOf, rowOf}
-use Rattle.commit.specs.Walks.{stop, done, onward, edgeRule, extraNext, refuseNext, edgeNext, secondNext, aloneNext, firstNext, nextOf, Walked, ends, parent, extraWalk, refuseWalk, edgeFrom, wordsIn, edgeWalk, secondWalk, aloneWalk, firstWalk, restOf, counted, countFrom, answerOf, stepBy, refusedStep, refuseStep, stepOf, countOf, totalBy, refuseTotal, totalOf}
+use Rattle.commit.specs.Walks.{stop, done, onward, edgeRule, extraNext, refuseNext, edgeNext, secondNext, aloneNext, firstNext, nextOf, Walked, ends, parent, extraWalk, refuseWalk, edgeFrom, wordsIn, edgeWalk, secondWalk, aloneWalk, firstWalk, restOf, positions, endOf, counted, countFrom, answerOf, stepBy, refusedStep, refuseStep, stepOf, countOf, totalBy, refuseTotal, totalOf}
 use Rattle.file.specs.declared.File.{File}
 use Rattle.commit.specs.declared.parents.Answer.{Answer}
 use Rattle.commit.specs.declared.parents.Answer.the-variants.{Parent as Answered, Refused as AnsweredNo, End as AnsweredEnd}
@@ -273,3 +273,32 @@ module _ (l : List ℕ) (f : File) (i : ℕ) where
       → (x v : Counted) → x ≡ countOf (rowOf l f i .first) (rowOf l f i .second) (not (absent (f .edge))) (edgePart l f) → x ≡ v → totalBy i v ≡ totalOf l f i
   unfolding totalOf refuseTotal
   total-plain e x v p q = rw e (ap (totalBy i) (sym q ∙ p))
+
+-- a count of a walk: how many positions it answers, or the refusal that it ends with
+count-walk : (n : ℕ) (w : Walked) → countFrom n w ≡ counted (endOf w) (n + length (positions w))
+unfolding countFrom endOf positions
+count-walk n (ends r) = ap (counted r) (omega arith)
+count-walk n (parent p w) = count-walk (n + 1) w ∙ ap (counted (endOf w)) (omega arith)
+
+counted-all : (r n m : ℕ) → counted r n ≡ Count m → (r ≡ 0) × (n ≡ m)
+unfolding counted
+counted-all zero n m e = (refl, cc)
+counted-all (suc r) n m e = let z : _≡_ {A = ℕ} 0 1 = cc in absurd (omega arith)
+
+counted-short : (r n m : ℕ) → counted r n ≡ Stopped m → (r ≡ m) × (0 < m)
+unfolding counted
+counted-short zero n m e = let z : _≡_ {A = ℕ} 0 1 = cc in absurd (omega arith)
+counted-short (suc r) n m e = let q : suc r ≡ m = cc in (q, omega arith)
+
+module _ (a b : ParentEdge) (t : Bool) (e : List ℕ) where
+  count-is : countOf a b t e ≡ counted (endOf (firstWalk a b t e)) (length (positions (firstWalk a b t e)))
+  unfolding countOf
+  count-is = count-walk 0 (firstWalk a b t e) ∙ ap (counted (endOf (firstWalk a b t e))) (omega arith)
+
+  -- x is what the count said
+  module _ (x : Counted) (d : x ≡ countOf a b t e) where
+    pub count-all : (m : ℕ) → x ≡ Count m → (endOf (firstWalk a b t e) ≡ 0) × (length (positions (firstWalk a b t e)) ≡ m)
+    count-all m h = counted-all _ _ m (sym count-is ∙ sym d ∙ h)
+
+    pub count-short : (m : ℕ) → x ≡ Stopped m → (endOf (firstWalk a b t e) ≡ m) × (0 < m)
+    count-short m h = counted-short _ (length (positions (firstWalk a b t e))) m (sym count-is ∙ sym d ∙ h)

@@ -4,18 +4,17 @@ use mathlib.Core.List.{List}
 use mathlib.Core.Bool.{Bool, true, false, not, _&&_}
 use mathlib.Core.Path.{_≡_, refl, sym, ap, ap₂, _∙_}
 use native.Mathlib.Omega.{arith}
-use native.Mathlib.Nat.{mul-le-mul, mul-one, add-zero, div-mul-le-self, suc-mul, mul-le-mul-right}
+use native.Mathlib.Nat.{mul-le-mul, div-mul-le-self, suc-mul, mul-le-mul-right}
 use lib.Dec.{ltb, eqb, lit<}
 use lib.ListN.{length}
 use denote.Ref.{RefT}
 use borrow.Author.Tests.{lt-ltb, le-ltb, ltb-true, ltb-false, eq-eqb, ne-eqb, eqb-true, not-false}
 use Rattle.types.specs.Refusals.{refusal}
-use Rattle.words.specs.Big.{be, number}
+use Rattle.words.specs.Big.{number}
 use Rattle.words.specs.First.{_if_else_, first}
-use Rattle.words.specs.Part.{RecordsOf, PartOf}
+use Rattle.words.specs.Part.{RecordsOf}
 use Rattle.words.specs.Sums.{before}
-use Rattle.words.proofs.Numbers.{be-part}
-use Rattle.words.proofs.Parts.{records-in, part-length}
+use Rattle.words.proofs.Parts.{run-in, part-number}
 use Rattle.words.proofs.Rows.{hit, miss, pass}
 use Rattle.words.proofs.Searches.{first-begins, first-stop, first-step, first-ends}
 use Rattle.list.specs.List.{recordsOf, lengthAt, kindAt, claimAt, spareAt, recordRule, flawed, sizeRule, badRecord, listRule, listPlace}
@@ -26,10 +25,7 @@ square k z h g = mul-le-mul {n₁ = k} {m₁ = z} {n₂ = 4294967295} {m₂ = 42
 
 -- the hash bytes of a record as a number
 pub claim-number : (s r : RefT (List ℕ)) (z k : ℕ) → k * z + 28 ≤ length (s .now) → RecordsOf s (k * z + 8) 20 1 r → number (r .now) ≡ claimAt z (s .now) k
-claim-number s r z k h p =
-    let q : PartOf s (k * z + 8) (20 * 1) r = records-in s r (k * z + 8) 20 1 (omega arith) p in
-    let l : length (r .now) ≡ 20 = part-length q (omega arith) in
-    rw l (ap (λ (x : List ℕ). be 20 x 0) (q .bytes) ∙ be-part 20 (s .now) (k * z + 8) 20 0 (omega arith) ∙ rw add-zero)
+claim-number s r z k h p = part-number (run-in s r (k * z + 8) 20 (omega arith) p) (omega arith)
 
 -- the ways through a record's table: a is its kind, s whether it has stray hash bytes, b its spare bytes
 module _ (z : ℕ) (l : List ℕ) (k a : ℕ) (p : a ≡ kindAt z l k) where

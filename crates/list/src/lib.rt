@@ -6,6 +6,7 @@ use types::refusal::LIST_SUM;
 use types::refusal::Refusal;
 use types::refusal::TOO_LARGE;
 use words::big::be32;
+use words::order::same;
 use words::order::zero;
 use words::part::part;
 ghost use mathlib.Core.Path.{_≡_};
@@ -14,6 +15,7 @@ ghost use mathlib.Core.Bool.{not, _&&_};
 ghost use lib.Dec.{eqb};
 ghost use lib.ListN.{length};
 ghost use Rattle.types.specs.Refusals.{refusal};
+ghost use Rattle.words.specs.Big.{be, number};
 ghost use Rattle.words.specs.First.{first};
 ghost use Rattle.words.specs.Part.{RecordsOf};
 ghost use Rattle.words.specs.Sums.{before};
@@ -55,6 +57,13 @@ pub fn claim_at<'a>(list: &'a [u8], z: u32, k: u32) -> &'a [u8]
     ensures { λ r. ⌜ RecordsOf (list .entry) (k * z + 8) 20 1 r ⌝ }
 {
     part(list, at(z, k) + 8, 20, 1)
+}
+
+// `x` is the run of as many bytes at the place of record `k`'s hash.
+pub fn claims(list: &[u8], z: u32, k: u32, x: &[u8]) -> bool
+    ensures { λ r. ⌜ r ≡ eqb (number (now (x .entry))) (be (length (now (x .entry))) (now (list .entry)) (k * z + 8)) ⌝ }
+{
+    same(x, list, at(z, k) + 8)
 }
 
 // The four spare bytes of record `k`.

@@ -4,14 +4,16 @@ use mathlib.Core.List.{List, [], _∷_}
 use mathlib.Core.Bool.{Bool, true, false}
 use mathlib.Core.Path.{_≡_, refl, sym, ap, _∙_}
 use native.Mathlib.Omega.{arith}
-use native.Mathlib.Nat.{add-sub-cancel-left, le-div-iff-mul-le, div-lt-iff-lt-mul}
+use native.Mathlib.Nat.{add-zero, mul-one, add-sub-cancel-left, le-div-iff-mul-le, div-lt-iff-lt-mul}
 use lib.Dec.{leb}
 use lib.ListN.{length, take, drop, length-take, length-drop}
 use lib.Seq.{take-take, drop-drop}
 use denote.Ref.{RefT}
 use borrow.Author.Tests.{le-leb, lt-leb, leb-true, leb-false}
+use Rattle.words.specs.Big.{be, number}
 use Rattle.words.specs.First.{_if_else_}
 use Rattle.words.specs.Part.{fits, PartOf, RecordsOf}
+use Rattle.words.proofs.Numbers.{be-part}
 
 -- the bytes from k to k + n are the n bytes from k on
 pub span : (k n : ℕ) (l : List ℕ) → take (k + n - k) (drop k l) ≡ take n (drop k l)
@@ -38,6 +40,12 @@ length-part k n l h = simp (length-take, length-drop) (omega arith)
 
 pub part-length : {s r : RefT (List ℕ)} {k n : ℕ} → PartOf s k n r → k + n ≤ length (s .now) → length (r .now) ≡ n
 part-length {s} {r} {k} {n} p h = ap length (p .bytes) ∙ length-part k n (s .now) h
+
+-- the number that a part makes
+pub part-number : {s r : RefT (List ℕ)} {k n : ℕ} → PartOf s k n r → k + n ≤ length (s .now) → number (r .now) ≡ be n (s .now) k
+part-number {s} {r} {k} {n} p h =
+    let l : length (r .now) ≡ n = part-length p h in
+    rw l (ap (λ (x : List ℕ). be n x 0) (p .bytes) ∙ be-part n (s .now) k n 0 (omega arith) ∙ rw add-zero)
 
 -- records that lie within n bytes, and ones that do not
 module _ (n at count w : ℕ) where
@@ -78,3 +86,7 @@ module _ (s : RefT (List ℕ)) (at count w : ℕ) {t : Bool} (e : t ≡ fits (le
 pub records-in : (s r : RefT (List ℕ)) (at count w : ℕ) → at + count * w ≤ length (s .now) → RecordsOf s at count w r → PartOf s at (count * w) r
 unfolding _if_else_
 records-in s r at count w h p = rw (le-leb (at + count * w) (length (s .now)) h) at p
+
+-- the same of n single bytes
+pub run-in : (s r : RefT (List ℕ)) (at n : ℕ) → at + n ≤ length (s .now) → RecordsOf s at n 1 r → PartOf s at n r
+run-in s r at n h p = rw mul-one at (records-in s r at n 1 (rw mul-one h) p)

@@ -1,0 +1,10 @@
+-- `list::claims` meets its contract.
+use borrow.Author.Needs.{needs}
+use Rattle.list.proofs.claims.Statement.{statement}
+use Rattle.list.proofs.claims.Tie as tie
+
+returns : tie.Need-returns
+returns c = rw (← c .before .at .ensures .0) (c .same .ensures)
+
+pub claims-spec : {M : Type 1} → statement M
+claims-spec = tie.close (tie.spec (λ c κs. search needs) (λ c. search needs) (λ c κs. search needs) returns)

@@ -1,0 +1,29 @@
+-- `report::lines::key` meets its contract.
+use native.Mathlib.Omega.{arith}
+use borrow.Author.Tests.{eq-eqb, ne-eqb}
+use Rattle.text.specs.Text.{pickList}
+use Rattle.report.specs.Output.{keyWord}
+use Rattle.report.proofs.Putting.{within}
+use borrow.Author.Needs.{needs}
+use Rattle.report.proofs.lines.key.Statement.{statement}
+use Rattle.report.proofs.lines.key.Tie as tie
+
+returns : tie.Need-returns
+unfolding keyWord pickList
+returns c = rw (eq-eqb _ _ (c .before .before .before .before .before .if1 .taken)) (within (omega arith) (c .before .before .word .ensures))
+
+returns-2 : tie.Need-returns-2
+unfolding keyWord pickList
+returns-2 c = rw (ne-eqb _ _ (c .before .before .before .before .if1 .left)) (c .before .before .figure .ensures)
+
+pub key-spec : {M : Type 1} → statement M
+key-spec =
+    tie.close
+    (tie.spec
+    (λ c. search needs)
+    (λ c κs. search needs)
+    (λ c. search needs)
+    returns
+    (λ c κs. search needs)
+    (λ c. search needs)
+    returns-2)

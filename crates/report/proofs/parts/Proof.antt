@@ -1,0 +1,33 @@
+-- `report::parts` meets its contract.
+use denote.Ref.{now}
+use native.Mathlib.Omega.{arith}
+use Rattle.report.proofs.Reading.{short, large, cut, whole}
+use borrow.Author.Needs.{needs}
+use Rattle.report.proofs.parts.Statement.{statement}
+use Rattle.report.proofs.parts.Tie as tie
+
+returns : tie.Need-returns
+returns c = short (now (c .before .before .args .input)) (omega arith)
+
+returns-2 : tie.Need-returns-2
+returns-2 c = large (now (c .before .before .before .before .args .input)) (omega arith) (omega arith)
+
+returns-3 : tie.Need-returns-3
+returns-3 c = cut (now (c .before .before .before .before .before .args .input)) (omega arith) (omega arith) (omega arith)
+
+returns-4 : tie.Need-returns-4
+returns-4 c = rw (c .before .before .be32 .ensures) (whole (now (c .before .before .before .before .before .args .input)) (omega arith) (omega arith) (omega arith))
+
+pub parts-spec : {M : Type 1} → statement M
+parts-spec =
+    tie.close
+    (tie.spec
+    returns
+    (λ c κs. search needs)
+    (λ c. search needs)
+    returns-2
+    (λ c. search needs)
+    returns-3
+    (λ c. search needs)
+    (λ c. search needs)
+    returns-4)

@@ -1,0 +1,3 @@
+pub mod Decimal
+pub mod Places
+pub mod Filling

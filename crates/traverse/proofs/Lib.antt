@@ -1,0 +1,4 @@
+pub mod Trailers
+pub mod Entries
+pub mod Scanning
+pub mod Traversing

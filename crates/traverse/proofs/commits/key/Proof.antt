@@ -1,0 +1,19 @@
+-- `traverse::commits::key` meets its contract.
+use native.Mathlib.Omega.{arith}
+use borrow.Author.Tests.{le-leb, lt-leb}
+use Rattle.words.proofs.Rows.{hit, miss}
+use Rattle.ancestry.specs.Counts.{keyOf}
+use mathlib.Core.Path.{refl}
+use Rattle.traverse.proofs.commits.key.Statement.{statement}
+use Rattle.traverse.proofs.commits.key.Tie as tie
+
+returns : tie.Need-returns
+unfolding keyOf
+returns c = (hit _ _ 65 (le-leb (c .before .args .n) 64 (omega arith)), omega arith)
+
+returns-2 : tie.Need-returns-2
+unfolding keyOf
+returns-2 c = (miss _ _ 65 65 (lt-leb (c .before .args .n) 64 (omega arith)) refl, omega arith)
+
+pub key-spec : {M : Type 1} → statement M
+key-spec = tie.close (tie.spec returns returns-2)

@@ -1,0 +1,54 @@
+-- `traverse::opened` meets its contract.
+use mathlib.Core.Bool.{true}
+use mathlib.Core.Path.{ap, _∙_}
+use denote.Ref.{now}
+use Rattle.file.proofs.Opens.{opened}
+use Rattle.traverse.specs.Traversal.{refusedBy}
+use Rattle.traverse.proofs.Traversing.{file-sum, file-name, file-commit, file-fine}
+use borrow.Author.Needs.{needs}
+use Rattle.traverse.proofs.opened.Statement.{statement}
+use Rattle.traverse.proofs.opened.Tie as tie
+
+returns : tie.Need-returns
+returns c =
+    let k = c .before .before .before .before .before .before in
+    c .refused .ensures ∙ ap refusedBy (c .before .at .ensures) ∙ file-sum 32 (now (k .args .chain)) (now (k .args .list)) (k .args .f) (k .pre) _ (c .before .before .before .sum-in .ensures) (c .before .before .if1 .taken)
+
+returns-2 : tie.Need-returns-2
+returns-2 c =
+    let k = c .before .before .before .before .before .before .before .before in
+    c .refused2 .ensures ∙ ap refusedBy (c .before .at2 .ensures)
+    ∙ file-name 32 (now (k .args .chain)) (now (k .args .list)) (k .args .f) (k .pre) _ (c .before .before .before .before .before .sum-in .ensures) (c .before .before .before .before .if1 .left) _ (c .before .before .before .name-in .ensures) (c .before .before .if2 .taken)
+
+commits-requires : tie.Need-commits-requires
+commits-requires c κs = let k = c .before .before .before .before .before .before in opened true (now (k .args .chain)) (k .args .f) (k .pre)
+
+returns-3 : tie.Need-returns-3
+returns-3 c =
+    let k = c .before .before .before .before .before .before .before .before .before .before .before .before in
+    c .refused3 .ensures ∙ ap refusedBy (c .before .at3 .ensures)
+    ∙ file-commit 32 (now (k .args .chain)) (now (k .args .list)) (k .args .f) (k .pre) _ (c .before .before .before .before .before .before .before .before .before .sum-in .ensures) (c .before .before .before .before .before .before .before .before .if1 .left) _ (c .before .before .before .before .before .before .before .name-in .ensures) (c .before .before .before .before .before .before .if2 .left) _ (c .before .before .before .before .before .commits .ensures) (c .before .before .before .if3 .taken)
+
+returns-4 : tie.Need-returns-4
+returns-4 c =
+    let k = c .before .before .before .before .before .before .before .before .before .before in
+    file-fine 32 (now (k .args .chain)) (now (k .args .list)) (k .args .f) (k .pre) _ (c .before .before .before .before .before .before .before .sum-in .ensures) (c .before .before .before .before .before .before .if1 .left) _ (c .before .before .before .before .before .name-in .ensures) (c .before .before .before .before .if2 .left) _ (c .before .before .before .commits .ensures) (c .before .if3 .left)
+
+pub opened-spec : {M : Type 1} → statement M
+opened-spec =
+    tie.close
+    (tie.spec
+    (λ c κs. search needs)
+    (λ c κs. search needs)
+    (λ c κs. search needs)
+    returns
+    (λ c κs. search needs)
+    (λ c κs. search needs)
+    (λ c κs. search needs)
+    returns-2
+    commits-requires
+    (λ c. search needs)
+    (λ c κs. search needs)
+    (λ c κs. search needs)
+    returns-3
+    returns-4)

@@ -1,0 +1,38 @@
+-- `traverse::traverse` meets its contract.
+use mathlib.Core.Path.{sym, _∙_}
+use denote.Ref.{now}
+use Rattle.traverse.proofs.Traversing.{traversal-list, traversal-shut, traversal-open}
+use borrow.Author.Needs.{needs}
+use Rattle.traverse.proofs.traverse.Statement.{statement}
+use Rattle.traverse.proofs.traverse.Tie as tie
+
+returns : tie.Need-returns
+returns c = let k = c .before .before .before .before .before .before in c .refused .ensures ∙ traversal-list 32 (now (k .args .chain)) (now (k .args .list)) _ (c .before .before .before .one .ensures) (c .before .if1 .taken)
+
+opened-requires : tie.Need-opened-requires
+opened-requires c κs = sym (c .before .before .before .«open» .ensures) ∙ c .before .f .given .1
+
+returns-2 : tie.Need-returns-2
+returns-2 c =
+    let k = c .before .before .before .before .before .before .before .before .before .before in
+    c .refused2 .ensures ∙ traversal-shut 32 (now (k .args .chain)) (now (k .args .list)) _ (c .before .before .before .before .before .before .before .one .ensures) (c .before .before .before .before .before .if1 .left) _ (c .before .before .before .before .«open» .ensures) _ (c .before .before .r .given .1)
+
+returns-3 : tie.Need-returns-3
+returns-3 c =
+    let k = c .before .before .before .before .before .before .before .before .before .before in
+    c .opened .ensures ∙ traversal-open 32 (now (k .args .chain)) (now (k .args .list)) _ (c .before .before .before .before .before .before .before .one .ensures) (c .before .before .before .before .before .if1 .left) _ (c .before .before .before .before .«open» .ensures) _ (c .before .before .f .given .1)
+
+pub traverse-spec : {M : Type 1} → statement M
+traverse-spec =
+    tie.close
+    (tie.spec
+    (λ c κs. search needs)
+    (λ c κs. search needs)
+    returns
+    (λ c κs. search needs)
+    (λ c. search needs)
+    (λ c κs. search needs)
+    (λ c. search needs)
+    opened-requires
+    returns-2
+    returns-3)

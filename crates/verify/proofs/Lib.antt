@@ -1,0 +1,8 @@
+pub mod Tabling
+pub mod Meeting
+pub mod Acceptance
+pub mod Demands
+pub mod Heading
+pub mod Trying
+pub mod Tossed
+pub mod Filing

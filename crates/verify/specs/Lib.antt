@@ -1,0 +1,5 @@
+pub mod Files
+pub mod Rules
+pub mod Scans
+pub mod Facts
+pub mod Coins
