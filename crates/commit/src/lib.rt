@@ -43,7 +43,7 @@ pub enum Asked {
     Refused(Refusal),
 }
 
-pub fn parent_edge(raw: u32) -> ParentEdge
+pub(crate) fn parent_edge(raw: u32) -> ParentEdge
     ensures { λ r. ⌜ r ≡ edgeOf raw ⌝ }
 {
     if raw == 0x7000_0000 {
@@ -55,7 +55,7 @@ pub fn parent_edge(raw: u32) -> ParentEdge
     ParentEdge::GraphPosition(Position(raw))
 }
 
-pub fn extra_edge(raw: u32) -> ExtraEdge
+pub(crate) fn extra_edge(raw: u32) -> ExtraEdge
     ensures { λ r. ⌜ r ≡ extraOf raw ⌝ }
 {
     if 0x8000_0000 <= raw {

@@ -20,7 +20,7 @@ ghost use Rattle.commit.specs.Walks.{firstWalk, positions};
 ghost use Rattle.commit.specs.Lists.{overlay, listOf, heldOf};
 
 // Writes the parents of a commit with these two parent words over the front of `out`, as many as it has room for.
-pub fn fill_in(first: ParentEdge, second: ParentEdge, edge: &[u8], there: bool, out: &mut [u32])
+fn fill_in(first: ParentEdge, second: ParentEdge, edge: &[u8], there: bool, out: &mut [u32])
     ensures { λ _. ⌜ now (out .exit) ≡ overlay (positions (firstWalk first second there (now (edge .entry)))) (now (out .entry)) ⌝ }
 {
     let mut phase = Phase::First;
