@@ -85,6 +85,11 @@ def records(files):
     return b"".join(record(len(data), 1, data[-20:].rjust(20, b"\0")) for data in files)
 
 
+def no_position(g, r):
+    """The words of a position that is refused."""
+    return f"position {g} {r} {r} empty empty {r}"
+
+
 def untouched(n):
     """So many entries of a list as they were before, and the one behind the list."""
     return ["_"] * (n + 1)
@@ -115,11 +120,16 @@ class Chain:
         stored[k] = replace(stored[k], **fields)
         return Chain(*stored)
 
+    def stands(self, g):
+        """The file of a position: its index, where it starts, its size, the position there and the file's commits."""
+        k, i = self.spots[g]
+        return f"file {k} {sum(map(len, self.files[:k]))} {len(self.files[k])} {i} {len(self.stored[k].rows)}"
+
     def position(self, g):
         if g < self.n:
             k, i = self.spots[g]
-            return f"position {g} fine {self.stored[k].rows[i].words()}"
-        return f"position {g} {refusal(40)} empty empty {refusal(40)}"
+            return f"position {g} {self.stands(g)} fine {self.stored[k].rows[i].words()}"
+        return no_position(g, refusal(40))
 
     def find(self, x):
         """Files in order, so the lowest position of an id that is stored twice."""
@@ -230,7 +240,7 @@ def positions(c, *asked):
 def refused(files, named, *why):
     """A whole chain that is refused: so is every question on it."""
     r = refusal(*why)
-    line = " ".join([f"position 0 {r} empty empty {r} parents {r} list {r}", *untouched(4)])
+    line = " ".join([f"{no_position(0, r)} parents {r} list {r}", *untouched(4)])
     question(b"w", files, named, b"", r, line, f"id 0 {r}")
 
 
@@ -247,7 +257,7 @@ def refused_too(files, named, *why):
     elif turn == 1:
         question(b"f", files, named, bytes(19), r)
     elif turn == 2:
-        question(b"p", files, named, be(4, g), f"position {g} {r} empty empty {r}")
+        question(b"p", files, named, be(4, g), no_position(g, r))
     elif turn == 3:
         question(b"l", files, named, be(4, g) + be(4, 2), " ".join([f"list {g} 2 {r}", *untouched(2)]))
     else:

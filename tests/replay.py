@@ -201,6 +201,49 @@ def verified(named, chain):
     return generations, counts
 
 
+def traversed(named, data):
+    """The lines of the traversal of one file: commits, highest and lowest generation, most parents; and a line for each count above 0."""
+    if len(data) > 2**30:
+        refuse(1)
+    if len(named) != 32:
+        refuse(30)
+    (_, kind, claim), f = named_files(named, len(data))[0], File(0, data)
+    if hashlib.sha1(data[:-20]).digest() != f.trailer():
+        refuse(62)
+    if kind == 2 or kind == 1 and claim != f.trailer():
+        refuse(63)
+    counts = []
+    for i in range(len(f.ids)):
+        check_commit(0, f, i)
+        counts.append(len(list(f.parents(0, i))))
+    generations = [f.generation(i) for i in range(len(f.ids))] or [0]
+    keys = [min(n, 65) for n in counts]
+    first = f"traversed {len(counts)} {max(generations)} {min(generations)} {max(counts, default=0)}"
+    return [first, *(f"count {n} {keys.count(n)}" for n in sorted(set(keys)))]
+
+
+def trailed(data):
+    """The line of a file's trailer."""
+    f = File(0, data)
+    right = hashlib.sha1(data[:-20]).digest() == f.trailer()
+    return [f"checksum {f.trailer().hex()} {'right' if right else refusal(62, 0, 0)}"]
+
+
+def told(rule, *inputs):
+    """The lines that a rule gives, or its refusal."""
+    try:
+        return rule(*inputs)
+    except Refused as e:
+        return [refusal(*e.args)]
+
+
+def single(data):
+    """The lines for the chain of an input as one file."""
+    size = number(data, 0)
+    named, chain = data[4 : 4 + size], data[4 + size :]
+    return told(traversed, named, chain) + told(trailed, chain)
+
+
 def printed(data):
     """The lines for an input."""
     size = number(data, 0)
@@ -220,9 +263,18 @@ def printed(data):
 # Questions, with the answer that is meant.
 
 
+def replay(data):
+    """Asks for an input; where its list has at most two records, also for the chain as one file."""
+    lines = printed(data)
+    if lines == ["unreadable"] or number(data, 0) > 64:
+        ask(b"v", data, *lines)
+    else:
+        ask(b"t", data, *lines, *single(data))
+
+
 def case(data, *lines):
     assert printed(data) == list(lines), (printed(data), lines)
-    ask(b"v", data, *printed(data))
+    replay(data)
 
 
 def whole(files, named=None):
@@ -887,7 +939,7 @@ def single_bytes():
         for j, at in enumerate(places):
             bits = noise(777 + 100 * k + j, 1)[0] | 1
             asked = whole(mended([*files[:k], turned(data, at, bits if j % 2 else 1), *files[k + 1 :]]))
-            ask(b"v", asked, *printed(asked))
+            replay(asked)
     one, two = files
     refused([one, turned(two, len(two) - 25)], 61, 1)
     refused([one, turned(two, len(two) - 5)], 62, 1)

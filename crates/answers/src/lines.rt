@@ -6,10 +6,10 @@ use cases::print::print;
 use cases::print::refusal;
 use commit::Asked;
 use commit::commit_at;
-use commit::parents::Total;
-use commit::parents::count_at;
 use commit::tree_at;
 use file::File;
+use parents::Total;
+use parents::count_at;
 use types::file::Position;
 use types::refusal::Refusal;
 

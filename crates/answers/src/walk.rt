@@ -4,11 +4,11 @@ use cases::print::print;
 use cases::print::refusal;
 use cases::step::answer;
 use cases::step::phase;
-use commit::parents::Answer;
-use commit::parents::Phase;
-use commit::parents::Total;
-use commit::parents::step_at;
 use file::File;
+use parents::Answer;
+use parents::Phase;
+use parents::Total;
+use parents::step_at;
 use types::file::Position;
 
 // Prints the parents of a commit, or the refusal behind those that were met, and hands back how the walk ended.

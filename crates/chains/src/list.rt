@@ -2,9 +2,9 @@
 use cases::print::number;
 use cases::print::print;
 use cases::print::refusal;
-use commit::parents::Total;
-use graph::parents::list_at;
+use parents::Total;
 use types::graph::Position;
+use walk::listing::list_at;
 use words::big::be32;
 
 // What a list holds before it is lent. It is above every position that a walk answers.

@@ -1,4 +1,4 @@
-// Words of the answers by position, and of lookup.
+// Words of where a position stands, of the answers by position, and of lookup.
 use access::Asking;
 use cases::print::hex;
 use cases::print::number;
@@ -7,6 +7,9 @@ use cases::print::refusal;
 use commit::Asked;
 use commit::Commit;
 use commit::ParentEdge;
+use graph::locate::Located;
+use graph::locate::Spot;
+use graph::locate::locate;
 use graph::lookup::Found;
 use graph::lookup::find;
 use graph::positions::commit_at;
@@ -15,6 +18,28 @@ use graph::positions::tree_at;
 use graph::positions::which;
 use types::graph::Position;
 use words::big::be32;
+
+// Prints the file of a position: its index, where it starts, its size, the position there and the file's commits.
+fn spot(s: Spot) {
+    let at = s.pos;
+    let f = s.inner;
+    print(b" file");
+    number(s.file as u64);
+    number(s.start as u64);
+    number(s.size as u64);
+    number(at.0 as u64);
+    number(f.commits as u64);
+}
+
+fn located(a: Located) {
+    match a {
+        Located::At(s) => spot(s),
+        Located::Refused(r) => {
+            print(b" ");
+            refusal(r);
+        }
+    }
+}
 
 fn asking(a: Asking) {
     match a {
@@ -82,10 +107,11 @@ pub fn found(chain: &[u8], list: &[u8], id: &[u8]) {
     print(b"\n");
 }
 
-// Prints what the questions by position answer: which refusal, the id, the tree, the commit.
+// Prints what the questions by position answer: where it stands, which refusal, the id, the tree, the commit.
 pub fn position(chain: &[u8], list: &[u8], pos: Position) {
     print(b"position");
     number(pos.0 as u64);
+    located(locate(chain, list, pos));
     asking(which(chain, list, pos));
     bytes(id_at(chain, list, pos));
     bytes(tree_at(chain, list, pos));

@@ -2,7 +2,7 @@
 use super::list::listed;
 use super::show::found;
 use super::show::position;
-use super::walk::walk;
+use super::steps::walk;
 use cases::print::number;
 use cases::print::print;
 use cases::print::refusal;

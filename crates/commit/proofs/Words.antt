@@ -1,4 +1,4 @@
--- The ways through a parent word, an EDGE word and a row of CDAT.
+-- The ways through a parent word and a row of CDAT.
 use Prim.Native.Nat.{ℕ, zero, suc, _+_, _-_, _*_, _^_, _≤_, _<_}
 use mathlib.Core.List.{List}
 use mathlib.Core.Bool.{Bool, true, false, not}
@@ -8,16 +8,17 @@ use lib.Dec.{ltb, leb, eqb, lit<}
 use lib.ListN.{length}
 use borrow.Author.Tests.{le-leb, lt-leb, le-ltb, ltb-false, eq-eqb, ne-eqb, eqb-true, not-false}
 use Rattle.types.specs.Refusals.{refusal}
+use Rattle.types.specs.declared.refusal.Refusal.{Refusal}
 use Rattle.words.proofs.Parts.{length-part}
 use Rattle.words.proofs.Rows.{miss, pass}
 use Rattle.file.specs.Fits.{known, fitRule, askRule, rowsPart, Fitted}
-use Rattle.commit.specs.Commits.{pickEdge, edgeOf, pickExtra, extraOf, commitOf, rowRule, refuseCommit, commitIn, rowOf, commitAt}
+use Rattle.commit.specs.Commits.{pickEdge, edgeOf, commitOf, rowRule, refuseCommit, commitIn, rowOf, commitAt}
 use Rattle.file.specs.declared.File.{File}
+use Rattle.commit.specs.declared.Commit.{Commit}
 use Rattle.commit.specs.declared.Asked.{Asked}
 use Rattle.commit.specs.declared.Asked.the-variants.{Commit as Is, Refused}
 use Rattle.commit.specs.declared.ParentEdge.the-variants.{None, GraphPosition, ExtraEdgeIndex}
-use Rattle.commit.specs.declared.ExtraEdge.the-variants.{Internal, Last}
-use Rattle.file.proofs.Fitting.{Answered, run-within}
+use Rattle.file.proofs.Fitting.{Answered, answered, run-within}
 
 module _ (x : ℕ) where
   pub edge-none : x ≡ 0x70000000 → None ≡ edgeOf x
@@ -31,14 +32,6 @@ module _ (x : ℕ) where
   pub edge-position : (x ≡ 0x70000000 → ⊥) → x < 0x80000000 → GraphPosition (record { 0 = x }) ≡ edgeOf x
   unfolding edgeOf pickEdge
   edge-position n h = rw (ne-eqb x 0x70000000 n, lt-leb 0x80000000 x h)
-
-  pub extra-last : 0x80000000 ≤ x → Last (record { 0 = x - 0x80000000 }) ≡ extraOf x
-  unfolding extraOf pickExtra
-  extra-last h = rw (le-leb 0x80000000 x h)
-
-  pub extra-more : x < 0x80000000 → Internal (record { 0 = x }) ≡ extraOf x
-  unfolding extraOf pickExtra
-  extra-more h = rw (lt-leb 0x80000000 x h)
 
 -- a row that is there
 pub row-there : (w n i : ℕ) → rowRule w n i ≡ 0 → (w ≡ 20) × (i * (w + 16) + (w + 16) ≤ n)
@@ -74,6 +67,28 @@ commit-misfit l f i m e h = rw (← e) (refuse-some m _ h)
 pub commit-plain : (l : List ℕ) (f : File) (i : ℕ) → Answered l f (f .commits) i → Is (rowOf l f i) ≡ commitAt l f i
 unfolding commitAt
 commit-plain l f i k = sym (refuse-none _ _ (k .rule))
+
+-- what an answer says of its question: x is the answer for commit i of a file
+refuse-given : (n : ℕ) (rest : Asked) (c : Commit) → refuseCommit n rest ≡ Is c → (n ≡ 0) × (rest ≡ Is c)
+unfolding refuseCommit
+refuse-given zero rest c e = (refl, e)
+refuse-given (suc n) rest c e = let z : _≡_ {A = ℕ} 0 1 = cc in absurd (omega arith)
+
+refuse-barred : (n : ℕ) (d : Commit) (r : Refusal) → refuseCommit n (Is d) ≡ Refused r → (0 < n) × (r ≡ refusal n 0)
+unfolding refuseCommit
+refuse-barred zero d r e = let z : _≡_ {A = ℕ} 0 1 = cc in absurd (omega arith)
+refuse-barred (suc n) d r e = (omega arith, cc)
+
+module _ (l : List ℕ) (f : File) (i : ℕ) (x : Asked) (e : x ≡ commitAt l f i) where
+  pub commit-given : (c : Commit) → x ≡ Is c → Answered l f (f .commits) i × (c ≡ rowOf l f i)
+  unfolding commitAt
+  commit-given c h =
+      let k = refuse-given (askRule l f (f .commits) i) (Is (rowOf l f i)) c (sym e ∙ h) in
+      (answered l f (f .commits) i 0 (sym (k .0)) (omega arith), cc (k .1))
+
+  pub commit-barred : (r : Refusal) → x ≡ Refused r → (0 < askRule l f (f .commits) i) × (r ≡ refusal (askRule l f (f .commits) i) 0)
+  unfolding commitAt
+  commit-barred r h = refuse-barred (askRule l f (f .commits) i) (rowOf l f i) r (sym e ∙ h)
 
 -- row i of a record that fits: where its fields lie in the rows' part p
 pub fields-room : (l p : List ℕ) (f : File) (i : ℕ) → Fitted l f → p ≡ rowsPart l f → i < f .commits → i * (f .width + 16) + f .width + 16 ≤ length p

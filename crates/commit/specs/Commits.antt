@@ -1,4 +1,4 @@
--- Commits: gitformat-commit-graph's "Commit Data" (CDAT) and "Extra Edge List" (EDGE).
+-- Commits: gitformat-commit-graph's "Commit Data" (CDAT).
 use Prim.Native.Nat.{ℕ, zero, suc, _+_, _-_, _*_, _/_, _%_, _^_}
 use mathlib.Core.List.{List}
 use mathlib.Core.Bool.{Bool, true, false, not}
@@ -14,8 +14,6 @@ use Rattle.commit.specs.declared.Asked.{Asked}
 use Rattle.commit.specs.declared.Asked.the-variants.{Commit as Is, Refused}
 use Rattle.commit.specs.declared.ParentEdge.{ParentEdge}
 use Rattle.commit.specs.declared.ParentEdge.the-variants.{None, GraphPosition, ExtraEdgeIndex}
-use Rattle.commit.specs.declared.ExtraEdge.{ExtraEdge}
-use Rattle.commit.specs.declared.ExtraEdge.the-variants.{Internal, Last}
 
 -- a parent word
 unfoldable pub pickEdge : Bool → ParentEdge → ParentEdge → ParentEdge
@@ -27,14 +25,6 @@ edgeOf x =
     pickEdge (eqb x 0x70000000) None
     (pickEdge (leb 0x80000000 x) (ExtraEdgeIndex (x - 0x80000000))
     (GraphPosition (record { 0 = x })))
-
--- an EDGE word
-unfoldable pub pickExtra : Bool → ExtraEdge → ExtraEdge → ExtraEdge
-pickExtra true a b = a
-pickExtra false a b = b
-
-unfoldable pub extraOf : ℕ → ExtraEdge
-extraOf x = pickExtra (leb 0x80000000 x) (Last (record { 0 = x - 0x80000000 })) (Internal (record { 0 = x }))
 
 -- the generation and the time of two date words
 abbrev pub generationOf : ℕ → ℕ

@@ -1,3 +1,1 @@
 pub mod Commits
-pub mod Walks
-pub mod Lists

@@ -1,7 +1,4 @@
 // Commits of one file: tree, generation, time and parent words.
-pub mod listing;
-pub mod parents;
-
 use file::File;
 use file::fit::ask;
 use types::graph::Position;
@@ -14,7 +11,7 @@ ghost use mathlib.Core.Path.{_≡_};
 ghost use Prim.Native.Nat.{_+_, _*_, _≤_, _<_};
 ghost use lib.ListN.{length};
 ghost use Rattle.types.specs.Refusals.{refusal};
-ghost use Rattle.commit.specs.Commits.{edgeOf, extraOf, rowRule, commitOf, commitIn, rowOf, commitAt};
+ghost use Rattle.commit.specs.Commits.{edgeOf, rowRule, commitOf, commitIn, rowOf, commitAt};
 ghost use Rattle.words.specs.Part.{PartOf};
 ghost use Rattle.file.specs.Fits.{askRule, AskedPart, Fitted};
 
@@ -23,12 +20,6 @@ pub enum ParentEdge {
     None,
     GraphPosition(Position),
     ExtraEdgeIndex(u32),
-}
-
-// An EDGE word: a position with more to follow, or the last.
-pub enum ExtraEdge {
-    Internal(Position),
-    Last(Position),
 }
 
 pub struct Commit {
@@ -43,7 +34,7 @@ pub enum Asked {
     Refused(Refusal),
 }
 
-pub(crate) fn parent_edge(raw: u32) -> ParentEdge
+fn parent_edge(raw: u32) -> ParentEdge
     ensures { λ r. ⌜ r ≡ edgeOf raw ⌝ }
 {
     if raw == 0x7000_0000 {
@@ -53,15 +44,6 @@ pub(crate) fn parent_edge(raw: u32) -> ParentEdge
         return ParentEdge::ExtraEdgeIndex(raw - 0x8000_0000);
     }
     ParentEdge::GraphPosition(Position(raw))
-}
-
-pub(crate) fn extra_edge(raw: u32) -> ExtraEdge
-    ensures { λ r. ⌜ r ≡ extraOf raw ⌝ }
-{
-    if 0x8000_0000 <= raw {
-        return ExtraEdge::Last(Position(raw - 0x8000_0000));
-    }
-    ExtraEdge::Internal(Position(raw))
 }
 
 // Refusal 40 of row `i` of a CDAT chunk's part of `n` bytes, where ids have `w` bytes, or 0.
@@ -137,7 +119,7 @@ pub fn tree_at<'a>(s: &'a [u8], f: File, pos: types::file::Position) -> &'a [u8]
 }
 
 // The fields of commit `i`, of a record that fits.
-pub(crate) fn row_at(s: &[u8], f: File, i: u32) -> Commit
+fn row_at(s: &[u8], f: File, i: u32) -> Commit
     requires { ⌜ Fitted (now s) f ⌝ }
     requires { ⌜ i < f .commits ⌝ }
     ensures { λ r. ⌜ r ≡ rowOf (now (s .entry)) f i ⌝ }

@@ -1,10 +1,7 @@
 pub mod Passing
 pub mod Views
-pub mod Spots
-pub mod Steps
-pub mod Looking
-pub mod Lists
-pub mod Doors
 pub mod Standing
+pub mod Spots
+pub mod Reading
+pub mod Looking
 pub mod Exactly
-pub mod Following

@@ -1,16 +1,15 @@
 -- A pass that looks for an id: what was seen, else what is still to come, answers as the whole does.
-use Prim.Native.Nat.{ℕ, zero, suc, _+_, _-_, _*_, _≤_, _<_}
+use Prim.Native.Nat.{ℕ, suc, _+_, _-_, _≤_, _<_}
 use mathlib.Core.List.{List}
-use mathlib.Core.Bool.{Bool, true, false, not}
+use mathlib.Core.Bool.{Bool, true, false}
 use mathlib.Core.Path.{_≡_, refl, sym, ap, _∙_}
 use native.Mathlib.Omega.{arith}
 use native.Mathlib.Nat.{sub-zero}
-use lib.Dec.{ltb, eqb}
+use lib.Dec.{ltb}
 use lib.ListN.{length}
 use borrow.Author.Tests.{lt-ltb, le-ltb}
 use Rattle.types.specs.Refusals.{refusal}
 use Rattle.types.specs.declared.refusal.Refusal.{Refusal}
-use Rattle.words.specs.Sums.{before}
 use Rattle.list.specs.List.{recordsOf, listRule, listPlace}
 use Rattle.file.specs.declared.File.{File}
 use Rattle.file.specs.declared.Opening.the-variants.{Open, Refused}
@@ -19,12 +18,11 @@ use Rattle.access.specs.declared.Found.{Found as FileFound}
 use Rattle.access.specs.declared.Found.the-variants.{At as FileAt, Absent as FileAbsent, Refused as FileRefused}
 use Rattle.access.proofs.Looks.{found-below}
 use Rattle.words.proofs.Rows.{eq-not, ne-not}
-use Rattle.graph.specs.Chain.{placed, partAt, openAt, countAt, firstAt, orElse, openFrom, opened, Listed}
+use Rattle.graph.specs.Chain.{placed, partAt, openAt, firstAt, openFrom, opened, Listed}
 use Rattle.graph.specs.Lookups.{findIn, place, shift, findAt, lookFrom, pickFound, lookupOf, noteFile, pickHit, notedOf, hitOr, Looked}
 use Rattle.graph.specs.declared.lookup.Found.{Found}
-use Rattle.graph.specs.declared.lookup.Found.the-variants.{At, Absent, Refused as Not}
+use Rattle.graph.specs.declared.lookup.Found.the-variants.{Absent, Refused as Not}
 use Rattle.graph.specs.declared.lookup.Hit.{Hit}
-use Rattle.graph.specs.declared.lookup.Search.{Search}
 use Rattle.graph.proofs.Passing.{Along, along-begins, along-ends, along-refused, along-next, along-room}
 use Rattle.graph.proofs.Views.{else-first, else-next, numbers}
 
@@ -74,13 +72,14 @@ module _ (z : ℕ) (c l : List ℕ) (n : ℕ) (d : Listed z c l n) (x : List ℕ
           record { refusal = w .0; answer = λ y. absurd (omega arith) }
 
       module _ (f : File) (e : openAt z c l k ≡ Open f) where
-        -- s is the file's part, and y what its lookup found
-        pub look-next : (s : List ℕ) → s ≡ partAt z c l k → (y : FileFound) → y ≡ lookupIn s f x
-            → Looking z c l n x (k + 1) (at + length s) (sum + f .commits) (notedOf h sum y)
+        -- s is the file's part
+        pub look-next : (s : List ℕ) → s ≡ partAt z c l k
+            → Looking z c l n x (k + 1) (at + length s) (sum + f .commits) (notedOf h sum (lookupIn s f x))
         unfolding lookFrom findIn
-        look-next s q y v =
+        look-next s q =
             let b : n - k ≡ suc (n - (k + 1)) = omega arith in
-            let a : findAt z c l x k ≡ y = rw e (ap (λ (m : List ℕ). lookupIn m f x) (sym q) ∙ sym v) in
+            let y : FileFound = lookupIn s f x in
+            let a : findAt z c l x k ≡ y = rw e (ap (λ (m : List ℕ). lookupIn m f x) (sym q)) in
             record {
               along = along-next z c l n d k at sum (p .along) g f e (length s) (ap length q);
               answer =
@@ -92,8 +91,8 @@ module _ (z : ℕ) (c l : List ℕ) (n : ℕ) (d : Listed z c l n) (x : List ℕ
             }
 
         -- a position that is found fits
-        pub look-fits : (s : List ℕ) (y : FileFound) → y ≡ lookupIn s f x → (i : ℕ) → y ≡ found i → sum + i < 4294967296
-        look-fits s y v i w = omega (arith, found-below s f x i (sym v ∙ w), along-room z c l n d k at sum (p .along) g f e .0)
+        pub look-fits : (s : List ℕ) (i : ℕ) → lookupIn s f x ≡ found i → sum + i < 4294967296
+        look-fits s i w = omega (arith, found-below s f x i w, along-room z c l n d k at sum (p .along) g f e .0)
 
 -- the ways through a lookup
 module _ (z : ℕ) (c l x : List ℕ) where

@@ -1,22 +1,19 @@
 -- A pass over a chain's files: where each lies, and how the pass goes on.
-use Prim.Native.Nat.{ℕ, zero, suc, _+_, _-_, _*_, _≤_, _<_}
+use Prim.Native.Nat.{ℕ, suc, _+_, _-_, _*_, _≤_, _<_}
 use mathlib.Core.List.{List}
 use mathlib.Core.Bool.{Bool, true, false}
 use mathlib.Core.Path.{_≡_, refl, sym, ap, subst, _∙_}
 use mathlib.Core.Logic.{⊎-elim}
 use native.Mathlib.Omega.{arith}
-use native.Mathlib.Nat.{sub-zero, mul-one}
-use lib.Dec.{ltb, leb}
-use lib.ListN.{length, take, drop}
-use denote.Ref.{RefT}
+use native.Mathlib.Nat.{sub-zero}
+use lib.ListN.{length}
 use borrow.Author.Tests.{lt-ltb, le-ltb, le-leb, lt-leb, eqb-true}
 use Rattle.types.specs.Refusals.{refusal}
 use Rattle.types.specs.declared.refusal.Refusal.{Refusal}
-use Rattle.words.specs.Part.{RecordsOf}
 use Rattle.words.specs.Sums.{before}
-use Rattle.words.proofs.Adds.{before-next, before-lt, before-le}
+use Rattle.words.proofs.Adds.{before-next, before-lt}
 use Rattle.words.proofs.Numbers.{le-or-lt}
-use Rattle.words.proofs.Parts.{records-in, length-part}
+use Rattle.words.proofs.Parts.{length-part}
 use Rattle.list.specs.List.{lengthAt}
 use Rattle.file.specs.Table.{opening}
 use Rattle.file.specs.Facts.{Opened}
@@ -25,22 +22,23 @@ use Rattle.file.specs.declared.Opening.{Opening}
 use Rattle.file.specs.declared.Opening.the-variants.{Open, Refused}
 use Rattle.file.proofs.Opens.{opened, refused-named}
 use Rattle.graph.specs.Chain.{placed, commitsOf, startAt, partAt, openAt, countAt, openOr, openFrom, Listed}
-use Rattle.graph.specs.Passes.{pickSpot, keptOf, Holds, Kept, Surveyed}
-use Rattle.graph.specs.declared.survey.Spot.{Spot}
-use Rattle.graph.specs.declared.survey.Survey.{Survey}
+use Rattle.graph.specs.Passes.{pickMark, keptOf, Holds, Kept, Surveyed}
+use Rattle.graph.specs.declared.locate.Spot.{Spot}
+use Rattle.graph.specs.declared.survey.Mark.{Mark}
 
 -- the ways through what is kept
-module _ (old : Spot) (g sum next k at : ℕ) (f : File) where
-  pub kept-before : g < sum → old ≡ keptOf old g sum next k at f
-  unfolding keptOf pickSpot
+module _ (old : Mark) (g sum next k at n : ℕ) (f : File) where
+  pub kept-before : g < sum → old ≡ keptOf old g sum next k at n f
+  unfolding keptOf pickMark
   kept-before h = rw (lt-ltb g sum h)
 
-  pub kept-after : sum ≤ g → next ≤ g → old ≡ keptOf old g sum next k at f
-  unfolding keptOf pickSpot
+  pub kept-after : sum ≤ g → next ≤ g → old ≡ keptOf old g sum next k at n f
+  unfolding keptOf pickMark
   kept-after h e = rw (le-ltb g sum h, le-leb next g e)
 
-  pub kept-here : sum ≤ g → g < next → _≡_ {A = Spot} (record { found = true; file = k; start = at; pos = g - sum; inner = f }) (keptOf old g sum next k at f)
-  unfolding keptOf pickSpot
+  pub kept-here : sum ≤ g → g < next
+      → _≡_ {A = Mark} (record { found = true; spot = record { file = k; start = at; size = n; pos = record { 0 = g - sum }; inner = f } }) (keptOf old g sum next k at n f)
+  unfolding keptOf pickMark
   kept-here h e = rw (le-ltb g sum h, lt-leb next g e)
 
 module _ (z : ℕ) (c l : List ℕ) where
@@ -75,7 +73,7 @@ module _ (z : ℕ) (c l : List ℕ) where
     pub small : sum * 36 ≤ at
     pub rest : openFrom z c l 0 n ≡ openFrom z c l k (n - k)
 
-  pub record Passing (n g k at sum : ℕ) (r : Spot) : Type 0 where
+  pub record Passing (n g k at sum : ℕ) (r : Mark) : Type 0 where
     pub along : Along n k at sum
     pub kept : Kept z c l g k r
 
@@ -96,7 +94,7 @@ module _ (z : ℕ) (c l : List ℕ) where
     unfolding before
     along-begins = record { few = omega arith; place = refl; total = refl; small = omega arith; rest = rw sub-zero }
 
-    pub pass-begins : (g : ℕ) (r : Spot) → r .found ≡ false → Passing n g 0 0 0 r
+    pub pass-begins : (g : ℕ) (r : Mark) → r .found ≡ false → Passing n g 0 0 0 r
     unfolding before
     pass-begins g r e =
         record {
@@ -142,42 +140,50 @@ module _ (z : ℕ) (c l : List ℕ) where
               (omega (arith, p .small, p .place, d .most), omega (arith, p .place, d .most))
 
     more : (g k : ℕ) (r : Spot) → Holds z c l g k r → Holds z c l g (k + 1) r
-    more g k r h = record { below = omega (arith, h .below); start = h .start; sum = h .sum; high = h .high; inner = h .inner }
+    more g k r h = record { below = omega (arith, h .below); start = h .start; size = h .size; sum = h .sum; high = h .high; inner = h .inner }
 
     -- what was said of the first k files holds with one file more
-    module _ (g k at sum : ℕ) (r : Spot) (p : Passing n g k at sum r) (h : k < n) where
+    module _ (g k at sum : ℕ) (r : Mark) (p : Passing n g k at sum r) (h : k < n) where
       pub pass-refused : (q : Refusal) → openAt z c l k ≡ Refused q
-          → Surveyed z c l n g (record { refusal = placed k q; commits = sum; spot = r })
+          → Surveyed z c l n g (record { refusal = placed k q; commits = sum; mark = r })
       pass-refused q e =
           let w = along-refused k at sum (p .along) h q e in
           record { refusal = w .0; commits = λ y. absurd (omega arith); kept = λ y. absurd (omega arith) }
 
       module _ (f : File) (e : openAt z c l k ≡ Open f) where
-        keep-step : Kept z c l g (k + 1) (keptOf r g sum (sum + f .commits) k at f)
-        keep-step =
+        keep-step : (m : ℕ) → m ≡ length (partAt z c l k) → Kept z c l g (k + 1) (keptOf r g sum (sum + f .commits) k at m f)
+        keep-step m y =
             ⊎-elim
             (λ (a : sum ≤ g).
             ⊎-elim
             (λ (b : sum + f .commits ≤ g).
-            subst (Kept z c l g (k + 1)) (kept-after r g sum (sum + f .commits) k at f a b)
-            (record { holds = λ y. more g k r (p .kept .holds y); outside = λ y. omega (arith, counted k at sum (p .along) h f e) }))
+            subst (Kept z c l g (k + 1)) (kept-after r g sum (sum + f .commits) k at m f a b)
+            (record { holds = λ w. more g k (r .spot) (p .kept .holds w); outside = λ w. omega (arith, counted k at sum (p .along) h f e) }))
             (λ (b : g < sum + f .commits).
-            subst (Kept z c l g (k + 1)) (kept-here r g sum (sum + f .commits) k at f a b)
+            subst (Kept z c l g (k + 1)) (kept-here r g sum (sum + f .commits) k at m f a b)
             (record {
-              holds = λ y. record { below = omega arith; start = p .along .place; sum = omega (arith, p .along .total); high = rw (count-open k f e) (omega arith); inner = e };
-              outside = λ y. (let v : _≡_ {A = ℕ} 0 1 = cc in absurd (omega arith));
+              holds = λ w.
+                  record {
+                    below = omega arith;
+                    start = p .along .place;
+                    size = y ∙ part-long k h;
+                    sum = omega (arith, p .along .total);
+                    high = rw (count-open k f e) (omega arith);
+                    inner = e;
+                  };
+              outside = λ w. (let v : _≡_ {A = ℕ} 0 1 = cc in absurd (omega arith));
             }))
             (le-or-lt (sum + f .commits) g))
             (λ (a : g < sum).
-            subst (Kept z c l g (k + 1)) (kept-before r g sum (sum + f .commits) k at f a)
-            (record { holds = λ y. more g k r (p .kept .holds y); outside = λ y. absurd (omega (arith, p .along .total, p .kept .outside y)) }))
+            subst (Kept z c l g (k + 1)) (kept-before r g sum (sum + f .commits) k at m f a)
+            (record { holds = λ w. more g k (r .spot) (p .kept .holds w); outside = λ w. absurd (omega (arith, p .along .total, p .kept .outside w)) }))
             (le-or-lt sum g)
 
         pub pass-next : (m : ℕ) → m ≡ length (partAt z c l k)
-            → Passing n g (k + 1) (at + m) (sum + f .commits) (keptOf r g sum (sum + f .commits) k at f)
-        pass-next m y = record { along = along-next k at sum (p .along) h f e m y; kept = keep-step }
+            → Passing n g (k + 1) (at + m) (sum + f .commits) (keptOf r g sum (sum + f .commits) k at m f)
+        pass-next m y = record { along = along-next k at sum (p .along) h f e m y; kept = keep-step m y }
 
-    pub pass-ends : (g k at sum : ℕ) (r : Spot) → Passing n g k at sum r → n ≤ k → Surveyed z c l n g (record { refusal = refusal 0 0; commits = sum; spot = r })
+    pub pass-ends : (g k at sum : ℕ) (r : Mark) → Passing n g k at sum r → n ≤ k → Surveyed z c l n g (record { refusal = refusal 0 0; commits = sum; mark = r })
     pass-ends g k at sum r p h =
         let q : k ≡ n = omega (arith, p .along .few) in
         record {

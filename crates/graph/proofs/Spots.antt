@@ -1,106 +1,127 @@
--- The file of a position: it is the one that the definitions name, it is open, and a question on it meets no refusal.
-use Prim.Native.Nat.{ℕ, suc, _+_, _-_, _*_, _≤_, _<_}
+-- Where a position stands: the ways through the question, what its answer comes to, and the file that is cut by it.
+use Prim.Native.Nat.{ℕ, _≤_, _<_}
 use mathlib.Core.List.{List}
 use mathlib.Core.Bool.{Bool, true, false}
-use mathlib.Core.Path.{_≡_, refl, sym, ap, ap₂, subst, _∙_}
+use mathlib.Core.Path.{_≡_, refl, sym, ap, subst, _∙_}
 use native.Mathlib.Omega.{arith}
-use native.Mathlib.Nat.{add-assoc}
-use lib.Dec.{ltb, eqb}
-use lib.ListN.{length}
+use lib.Dec.{ltb, leb}
 use denote.Ref.{RefT}
-use borrow.Author.Tests.{lt-ltb, le-ltb, eq-eqb, ne-eqb}
+use borrow.Author.Tests.{lt-ltb, le-ltb, le-leb, lt-leb, ltb-true, ltb-false}
 use Rattle.types.specs.Refusals.{refusal}
 use Rattle.types.specs.declared.refusal.Refusal.{Refusal}
-use Rattle.words.specs.First.{_if_else_}
-use Rattle.words.specs.Part.{PartOf}
-use Rattle.words.specs.Sums.{before, whichOf, withinOf}
-use Rattle.words.proofs.Adds.{which-back, within-back}
-use Rattle.words.proofs.Parts.{part-part}
+use Rattle.words.specs.Part.{RecordsOf}
+use Rattle.words.proofs.Adds.{before-lt}
+use Rattle.words.proofs.Parts.{run-in}
 use Rattle.list.specs.List.{recordsOf, lengthAt}
-use Rattle.file.specs.Fits.{askRule, AskedPart, Fitted}
-use Rattle.file.specs.Facts.{Opened}
 use Rattle.file.specs.declared.File.{File}
-use Rattle.file.specs.declared.Opening.{Opening}
-use Rattle.file.specs.declared.Opening.the-variants.{Open, Refused}
-use Rattle.file.proofs.Opens.{opened}
-use Rattle.file.proofs.Fitting.{opened-fits, asked-plain, run-within, part-none}
-use Rattle.commit.specs.Commits.{commitAt}
-use Rattle.commit.specs.declared.Asked.{Asked}
-use Rattle.commit.specs.declared.Asked.the-variants.{Refused as Not}
-use Rattle.graph.specs.Chain.{commitsOf, startAt, partAt, openAt, countAt, fileOf, posOf, asked, Listed}
-use Rattle.graph.specs.Passes.{Holds, FileOf}
-use Rattle.graph.specs.Questions.{idIn, treeIn, widthIn, IdPart, TreePart, commitIn, pickAsked, commitOf}
-use Rattle.graph.specs.declared.survey.Spot.{Spot}
-use Rattle.graph.proofs.Passing.{part-long}
+use Rattle.file.specs.declared.Opening.the-variants.{Open}
+use Rattle.graph.specs.Chain.{pickRefusal, startAt, partAt, openAt, countAt, commitsIn, fileOf, posOf, opened, asked}
+use Rattle.graph.specs.Passes.{Holds, Viewed}
+use Rattle.graph.specs.Questions.{spotIn, pickLocated, located}
+use Rattle.graph.specs.Theorems.{Spotted, FileOf}
+use Rattle.graph.specs.declared.locate.Located.the-variants.{At, Refused as Nowhere}
+use Rattle.graph.specs.declared.locate.Spot.{Spot}
+use Rattle.graph.specs.declared.survey.Survey.{Survey}
+use Rattle.graph.proofs.Passing.{file-room}
+use Rattle.graph.proofs.Standing.{stands, asked-opened, asked-below}
+use Rattle.graph.proofs.Views.{else-first, else-next, numbers, opened-listed}
 
--- a part of a part, where the inner question met no refusal
-inner-part : {s p x : RefT (List ℕ)} (at n m j w : ℕ) → PartOf s at n p → m ≡ 0 → j + w ≤ n → AskedPart p m j w x → PartOf s (at + j) w x
-unfolding _if_else_
-inner-part {s} {p} {x} at n m j w q e h k =
-    let y : PartOf p j w x = rw (eq-eqb m 0 e) at k in
-    part-part q y h
+module _ (z : ℕ) (c l : List ℕ) (g : ℕ) where
+  -- ── the ways through it ──
 
-module _ (z : ℕ) (c l : List ℕ) (g : ℕ) (r : Spot) (h : Holds z c l g (recordsOf z l) r) where
-  pub file-is : fileOf z c l g ≡ r .file
-  file-is = rw (← h .sum) (which-back (countAt z c l) (recordsOf z l) (r .file) (r .pos) (h .below) (h .high))
+  nowhere : (q : Refusal) → q ≡ asked z c l g → 0 < q .number → Nowhere q ≡ located z c l g
+  unfolding located pickLocated
+  nowhere q e h = rw (lt-ltb 0 (asked z c l g .number) (omega (arith, numbers e))) (ap Nowhere e)
 
-  pub pos-is : posOf z c l g ≡ r .pos
-  pos-is = rw (← h .sum) (within-back (countAt z c l) (recordsOf z l) (r .file) (r .pos) (h .below) (h .high))
+  -- r is what a look at the chain gave
+  module _ (r : Survey) (v : Viewed z c l g r) where
+    pub locate-refused : 0 < r .refusal .number → Nowhere (r .refusal) ≡ located z c l g
+    unfolding asked
+    locate-refused h = nowhere (r .refusal) (v .refusal ∙ sym (else-first (opened z c l) _ (omega (arith, numbers (v .refusal))))) h
 
-  spot-opened : Opened (partAt z c l (r .file)) (r .inner)
-  unfolding openAt
-  spot-opened = opened true (partAt z c l (r .file)) (r .inner) (h .inner)
+    module _ (h : r .refusal .number ≤ 0) where
+      none : r .refusal .number ≡ 0
+      none = omega arith
 
-  spot-below : r .pos < r .inner .commits
-  unfolding countAt commitsOf
-  spot-below = rw (h .inner) at (h .high)
+      next : asked z c l g ≡ pickRefusal (leb (commitsIn z c l) g) (refusal 40 0) (opened z c l)
+      unfolding asked
+      next = else-next (opened z c l) _ (omega (arith, numbers (v .refusal)))
 
-  -- a question on the file's commit meets no refusal
-  pub spot-plain : (s : List ℕ) → s ≡ partAt z c l (r .file) → askRule s (r .inner) (r .inner .commits) (r .pos) ≡ 0
-  spot-plain s e =
-      rw e (asked-plain (partAt z c l (r .file)) (r .inner) (r .inner .commits) (r .pos)
-      (opened-fits (partAt z c l (r .file)) (r .inner) spot-opened) spot-below)
+      pub locate-out : r .mark .found ≡ false → (q : Refusal) → q ≡ refusal 40 0 → Nowhere q ≡ located z c l g
+      unfolding pickRefusal
+      locate-out f q e =
+          let b : commitsIn z c l ≤ g = v .kept none .outside f in
+          let y : q .number ≡ 40 = numbers e in
+          nowhere q (e ∙ sym (next ∙ rw (le-leb (commitsIn z c l) g b))) (omega arith)
 
-  module _ (d : Listed z c l (recordsOf z l)) where
-    id-room : r .inner .oidl + r .pos * r .inner .width + r .inner .width ≤ lengthAt z l (r .file)
-    id-room = omega (arith, spot-opened .fitted .ids, run-within (r .pos) (r .inner .commits) (r .inner .width) spot-below, part-long z c l (recordsOf z l) d (r .file) (h .below))
+      pub locate-found : r .mark .found ≡ true → At (r .mark .spot) ≡ located z c l g
+      unfolding pickRefusal located pickLocated spotIn
+      locate-found f =
+          let s : Spot = r .mark .spot in
+          let k : Holds z c l g (recordsOf z l) s = v .kept none .holds f in
+          let b : g < commitsIn z c l = omega (arith, k .sum, k .high, before-lt (countAt z c l) (s .file) (recordsOf z l) (k .below)) in
+          let a : asked z c l g ≡ opened z c l = next ∙ rw (lt-leb (commitsIn z c l) g b) in
+          let file : fileOf z c l g ≡ s .file = rw (← k .sum) (stands z c l .fileBack (s .file) (s .pos .0) (k .below) (k .high)) in
+          let pos : posOf z c l g ≡ s .pos .0 = rw (← k .sum) (stands z c l .posBack (s .file) (s .pos .0) (k .below) (k .high)) in
+          rw (le-ltb 0 (asked z c l g .number) (omega (arith, numbers a, numbers (v .refusal))), file, pos, k .inner, ← k .start, ← k .size)
 
-    tree-room : r .inner .cdat + r .pos * (r .inner .width + 16) + r .inner .width ≤ lengthAt z l (r .file)
-    tree-room = omega (arith, spot-opened .fitted .rows, run-within (r .pos) (r .inner .commits) (r .inner .width + 16) spot-below, part-long z c l (recordsOf z l) d (r .file) (h .below))
+  -- ── what its answer comes to ──
 
--- m is the question's number; s is the file's part, and x the part that the file's question handed back
-module _ (z : ℕ) (c : RefT (List ℕ)) (l : List ℕ) (g : ℕ) (m : Refusal) (e : m ≡ asked z (c .now) l g) where
-  number-is : m .number ≡ asked z (c .now) l g .number
-  number-is = ap (λ (y : Refusal). y .number) e
+  spot-of : ℕ → ℕ → File → Spot
+  spot-of k i f = record { file = k; start = startAt z c l k; size = lengthAt z l k; pos = record { 0 = i }; inner = f }
 
-  fine : m .number ≤ 0 → asked z (c .now) l g .number ≡ 0
-  fine k = omega (arith, number-is)
+  fine-spot : asked z c l g .number ≡ 0 → (f : File) → openAt z c l (fileOf z c l g) ≡ Open f → posOf z c l g < f .commits → Spotted z c l g (spot-of (fileOf z c l g) (posOf z c l g) f)
+  unfolding spot-of
+  fine-spot a f o h =
+      let b : g < commitsIn z c l = asked-below z c l g a in
+      record {
+        fine = a;
+        file = refl;
+        pos = refl;
+        sum = stands z c l .sum g b;
+        below = stands z c l .file g b;
+        start = refl;
+        size = refl;
+        room = file-room z c l (recordsOf z l) (opened-listed z c l (asked-opened z c l g a)) (fileOf z c l g) (stands z c l .file g b);
+        opens = o;
+        high = h;
+      }
 
-  pub id-none : {x : RefT (List ℕ)} → 0 < m .number → PartOf c 0 0 x → IdPart z c l g x
-  id-none {x} h p = part-none c x _ _ _ (m .number) number-is h p
+  -- an answered spot is the position's, and a refusal is the question's
+  pub spotted : (r : Spot) → located z c l g ≡ At r → Spotted z c l g r
+  unfolding located pickLocated spotIn spot-of
+  spotted r = go (ltb 0 (asked z c l g .number)) refl
+    where
+      go : (t : Bool) → ltb 0 (asked z c l g .number) ≡ t
+          → pickLocated t (Nowhere (asked z c l g)) (spotIn (fileOf z c l g) (startAt z c l (fileOf z c l g)) (lengthAt z l (fileOf z c l g)) (posOf z c l g) (openAt z c l (fileOf z c l g))) ≡ At r
+          → Spotted z c l g r
+      go true e d = let y : _≡_ {A = ℕ} 0 1 = cc in absurd (omega arith)
+      go false e d =
+          let a : asked z c l g .number ≡ 0 = omega (arith, ltb-false 0 (asked z c l g .number) e) in
+          let o = stands z c l .opens g (asked-below z c l g a) in
+          let x : At (spot-of (fileOf z c l g) (posOf z c l g) (o .0)) ≡ At r = rw (o .1) at d in
+          let y : spot-of (fileOf z c l g) (posOf z c l g) (o .0) ≡ r = cc in
+          subst (Spotted z c l g) y (fine-spot a (o .0) (o .1) (o .2))
 
-  pub tree-none : {x : RefT (List ℕ)} → 0 < m .number → PartOf c 0 0 x → TreePart z c l g x
-  tree-none {x} h p = part-none c x _ _ _ (m .number) number-is h p
+  pub unspotted : (q : Refusal) → located z c l g ≡ Nowhere q → (q ≡ asked z c l g) × (0 < q .number)
+  unfolding located pickLocated spotIn
+  unspotted q = go (ltb 0 (asked z c l g .number)) refl
+    where
+      go : (t : Bool) → ltb 0 (asked z c l g .number) ≡ t
+          → pickLocated t (Nowhere (asked z c l g)) (spotIn (fileOf z c l g) (startAt z c l (fileOf z c l g)) (lengthAt z l (fileOf z c l g)) (posOf z c l g) (openAt z c l (fileOf z c l g))) ≡ Nowhere q
+          → (q ≡ asked z c l g) × (0 < q .number)
+      go true e d =
+          let y : q ≡ asked z c l g = cc in
+          (y, omega (arith, numbers y, ltb-true 0 (asked z c l g .number) e))
+      go false e d =
+          let a : asked z c l g .number ≡ 0 = omega (arith, ltb-false 0 (asked z c l g .number) e) in
+          let o = stands z c l .opens g (asked-below z c l g a) in
+          let x : spotIn (fileOf z c l g) (startAt z c l (fileOf z c l g)) (lengthAt z l (fileOf z c l g)) (posOf z c l g) (Open (o .0)) ≡ Nowhere q = rw (o .1) at d in
+          let y : _≡_ {A = ℕ} 0 1 = cc in absurd (omega arith)
 
-  module _ (k : m .number ≤ 0) (r : Spot) (h : Holds z (c .now) l g (recordsOf z l) r) (d : Listed z (c .now) l (recordsOf z l))
-      {s : RefT (List ℕ)} (f : FileOf z c l r s) where
-    pub id-part : {x : RefT (List ℕ)} → AskedPart s (askRule (s .now) (r .inner) (r .inner .commits) (r .pos)) (r .inner .oidl + r .pos * r .inner .width) (r .inner .width) x → IdPart z c l g x
-    unfolding idIn widthIn _if_else_
-    id-part p =
-        rw (eq-eqb _ 0 (fine k), file-is z (c .now) l g r h, pos-is z (c .now) l g r h, h .inner, ← h .start)
-        (inner-part _ _ _ _ _ (f .place) (spot-plain z (c .now) l g r h (s .now) (f .bytes)) (id-room z (c .now) l g r h d) p)
-
-    pub tree-part : {x : RefT (List ℕ)} → AskedPart s (askRule (s .now) (r .inner) (r .inner .commits) (r .pos)) (r .inner .cdat + r .pos * (r .inner .width + 16)) (r .inner .width) x → TreePart z c l g x
-    unfolding treeIn widthIn _if_else_
-    tree-part p =
-        rw (eq-eqb _ 0 (fine k), file-is z (c .now) l g r h, pos-is z (c .now) l g r h, h .inner, ← h .start)
-        (inner-part _ _ _ _ _ (f .place) (spot-plain z (c .now) l g r h (s .now) (f .bytes)) (tree-room z (c .now) l g r h d) p)
-
-    pub commit-part : (a : Asked) → a ≡ commitAt (s .now) (r .inner) (r .pos) → a ≡ commitOf z (c .now) l g
-    unfolding commitOf pickAsked commitIn
-    commit-part a p =
-        p ∙ rw (le-ltb 0 (asked z (c .now) l g .number) (omega (arith, fine k)), file-is z (c .now) l g r h, pos-is z (c .now) l g r h, h .inner, f .bytes)
-
-  pub commit-none : 0 < m .number → Not m ≡ commitOf z (c .now) l g
-  unfolding commitOf pickAsked
-  commit-none h = rw (lt-ltb 0 (asked z (c .now) l g .number) (omega (arith, number-is))) (ap Not e)
+-- what is cut from the chain by a spot is its file
+pub file-cut : (z : ℕ) (c : RefT (List ℕ)) (l : List ℕ) (g : ℕ) (r : Spot) → Spotted z (c .now) l g r → {s : RefT (List ℕ)} → RecordsOf c (r .start) (r .size) 1 s → FileOf z c l r s
+unfolding partAt
+file-cut z c l g r h {s} p =
+    let q = run-in c s (r .start) (r .size) (h .room) p in
+    record { bytes = q .bytes ∙ rw (← h .start, ← h .size); place = q }

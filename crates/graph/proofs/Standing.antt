@@ -4,11 +4,11 @@ use mathlib.Core.List.{List}
 use mathlib.Core.Bool.{Bool, true, false}
 use mathlib.Core.Path.{_≡_, refl, sym, ap, _∙_}
 use native.Mathlib.Omega.{arith}
-use lib.Dec.{ltb, leb}
+use lib.Dec.{leb}
 use lib.ListN.{length, take, drop, length-take}
 use lib.Seq.{drop-drop}
 use denote.Ref.{RefT}
-use borrow.Author.Tests.{ltb-true, leb-false, eq-eqb}
+use borrow.Author.Tests.{leb-false, eq-eqb}
 use Rattle.types.specs.Refusals.{refusal}
 use Rattle.words.proofs.Adds.{before-lt, which-below, within-below, within-sum, which-back, within-back}
 use Rattle.words.specs.First.{_if_else_}
@@ -21,9 +21,10 @@ use Rattle.file.specs.declared.Opening.the-variants.{Open, Refused}
 use Rattle.file.proofs.Opens.{opened as file-opened}
 use Rattle.file.proofs.Fitting.{run-within}
 use Rattle.access.specs.Lookup.{stored}
-use Rattle.graph.specs.Chain.{commitsOf, pickRefusal, orElse, startAt, partAt, openAt, countAt, commitsIn, fileOf, posOf, opened, asked}
+use Rattle.graph.specs.Chain.{commitsOf, pickRefusal, startAt, partAt, openAt, countAt, commitsIn, fileOf, posOf, opened, asked}
 use Rattle.graph.specs.Questions.{idIn, widthIn}
 use Rattle.graph.specs.Theorems.{Stands, storedIn, idOf, ReadsId}
+use Rattle.graph.proofs.Views.{else-none}
 
 -- a file that has a place is open
 has-open : (o : Opening) (i : ℕ) → i < commitsOf o → (f : File) × (o ≡ Open f) × (i < f .commits)
@@ -52,16 +53,18 @@ module _ (z : ℕ) (c l : List ℕ) where
         );
       }
 
-  -- a position that is not refused is one of the chain's
+  -- a position that is not refused: the chain opens, and it is one of the chain's
+  pub asked-opened : (g : ℕ) → asked z c l g .number ≡ 0 → opened z c l .number ≡ 0
+  unfolding asked
+  asked-opened g e = else-none (opened z c l) (pickRefusal (leb (commitsIn z c l) g) (refusal 40 0) (opened z c l)) e .0
+
   pub asked-below : (g : ℕ) → asked z c l g .number ≡ 0 → g < commitsIn z c l
-  unfolding asked orElse pickRefusal
-  asked-below g = go (ltb 0 (opened z c l .number)) (leb (commitsIn z c l) g) refl refl
+  unfolding asked pickRefusal
+  asked-below g e = go (leb (commitsIn z c l) g) refl (else-none (opened z c l) (pickRefusal (leb (commitsIn z c l) g) (refusal 40 0) (opened z c l)) e .1)
     where
-      go : (t u : Bool) → ltb 0 (opened z c l .number) ≡ t → leb (commitsIn z c l) g ≡ u
-          → pickRefusal t (opened z c l) (pickRefusal u (refusal 40 0) (opened z c l)) .number ≡ 0 → g < commitsIn z c l
-      go true u p q e = absurd (omega (arith, ltb-true 0 (opened z c l .number) p))
-      go false true p q e = absurd (omega arith)
-      go false false p q e = leb-false (commitsIn z c l) g q
+      go : (t : Bool) → leb (commitsIn z c l) g ≡ t → pickRefusal t (refusal 40 0) (opened z c l) .number ≡ 0 → g < commitsIn z c l
+      go true q d = absurd (omega arith)
+      go false q d = leb-false (commitsIn z c l) g q
 
 -- a part of a part of a part: place j of the n bytes at `at` of a file, which has m bytes at a place of the chain
 inner : (c : List ℕ) (start m at n j w : ℕ) → j + w ≤ n → at + j + w ≤ m

@@ -1,5 +1,5 @@
 -- The chain: document 01, "The chain". c is the chain's bytes, l the list's, and a record has z bytes. Files are functions of their index.
-use Prim.Native.Nat.{ℕ, zero, suc, _+_, _-_, _*_, _≤_, _<_}
+use Prim.Native.Nat.{ℕ, zero, suc, _+_, _≤_}
 use mathlib.Core.List.{List}
 use mathlib.Core.Bool.{Bool, true, false}
 use mathlib.Core.Path.{_≡_}

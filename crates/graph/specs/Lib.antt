@@ -1,7 +1,5 @@
 pub mod Chain
 pub mod Passes
 pub mod Questions
-pub mod Walks
 pub mod Lookups
-pub mod Lists
 pub mod Theorems

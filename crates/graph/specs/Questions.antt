@@ -4,14 +4,31 @@ use mathlib.Core.List.{List}
 use mathlib.Core.Bool.{Bool, true, false}
 use lib.Dec.{ltb}
 use denote.Ref.{RefT}
-use Rattle.types.specs.declared.refusal.Refusal.{Refusal}
+use Rattle.list.specs.List.{lengthAt}
 use Rattle.file.specs.Fits.{AskedPart}
 use Rattle.file.specs.declared.Opening.{Opening}
 use Rattle.file.specs.declared.Opening.the-variants.{Open, Refused}
 use Rattle.commit.specs.Commits.{commitAt}
 use Rattle.commit.specs.declared.Asked.{Asked}
 use Rattle.commit.specs.declared.Asked.the-variants.{Refused as Not}
-use Rattle.graph.specs.Chain.{startAt, partAt, openAt, fileOf, posOf, asked}
+use Rattle.graph.specs.Chain.{placed, startAt, partAt, openAt, fileOf, posOf, asked}
+use Rattle.graph.specs.declared.locate.Located.{Located}
+use Rattle.graph.specs.declared.locate.Located.the-variants.{At, Refused as Nowhere}
+
+-- place i of file k, which has the n bytes at `at` of the chain; none where the file does not open
+unfoldable pub spotIn : ℕ → ℕ → ℕ → ℕ → Opening → Located
+spotIn k at n i (Open f) = At (record { file = k; start = at; size = n; pos = record { 0 = i }; inner = f })
+spotIn k at n i (Refused r) = Nowhere (placed k r)
+
+unfoldable pub pickLocated : Bool → Located → Located → Located
+pickLocated true a b = a
+pickLocated false a b = b
+
+-- where position g stands
+unfoldable pub located : ℕ → List ℕ → List ℕ → ℕ → Located
+located z c l g =
+    pickLocated (ltb 0 (asked z c l g .number)) (Nowhere (asked z c l g))
+    (spotIn (fileOf z c l g) (startAt z c l (fileOf z c l g)) (lengthAt z l (fileOf z c l g)) (posOf z c l g) (openAt z c l (fileOf z c l g)))
 
 -- where id i and the tree of commit i lie in an opened file, and how wide they are
 unfoldable pub idIn : Opening → ℕ → ℕ

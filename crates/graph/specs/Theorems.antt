@@ -1,32 +1,21 @@
--- What the answers on a chain come to: where a position stands, what a lookup finds, and where the steps of a walk lead.
+-- What the answers on a chain come to: where a position stands, and what a lookup finds.
 use Prim.Native.Nat.{ℕ, _+_, _≤_, _<_}
-use mathlib.Core.List.{List, [], _∷_}
-use mathlib.Core.Bool.{not}
+use mathlib.Core.List.{List, []}
 use mathlib.Core.Path.{_≡_}
 use lib.ListN.{length}
 use denote.Ref.{RefT}
-use Rattle.types.specs.declared.refusal.Refusal.{Refusal}
-use Rattle.list.specs.List.{recordsOf}
-use Rattle.chunk.specs.Index.{absent}
-use Rattle.file.specs.Fits.{edgePart}
+use Rattle.words.specs.Part.{PartOf}
+use Rattle.list.specs.List.{recordsOf, lengthAt}
 use Rattle.file.specs.declared.File.{File}
 use Rattle.file.specs.declared.Opening.{Opening}
 use Rattle.file.specs.declared.Opening.the-variants.{Open, Refused}
 use Rattle.access.specs.Lookup.{stored, Ordered}
-use Rattle.commit.specs.Commits.{rowOf}
-use Rattle.commit.specs.Walks.{Walked, restOf, positions, endOf}
-use Rattle.commit.specs.declared.parents.Answer.the-variants.{Parent, Refused as Not, End}
-use Rattle.commit.specs.declared.parents.Parent.{Parent as Ancestor}
-use Rattle.commit.specs.declared.parents.Phase.{Phase}
-use Rattle.commit.specs.declared.parents.Phase.the-variants.{First, Exhausted}
-use Rattle.graph.specs.Chain.{partAt, openAt, countAt, firstAt, commitsIn, fileOf, posOf, opened, asked}
-use Rattle.graph.specs.Lists.{walkedAt, parentsAt}
+use Rattle.graph.specs.Chain.{startAt, partAt, openAt, countAt, firstAt, commitsIn, fileOf, posOf, opened, asked}
 use Rattle.graph.specs.Lookups.{place, lookupOf}
 use Rattle.graph.specs.Questions.{IdPart}
-use Rattle.graph.specs.Walks.{stepOf}
+use Rattle.graph.specs.declared.locate.Spot.{Spot}
 use Rattle.graph.specs.declared.lookup.Found.{Found}
 use Rattle.graph.specs.declared.lookup.Found.the-variants.{Absent}
-use Rattle.graph.specs.declared.walk.Walk.{Walk}
 
 -- ── positions ──
 
@@ -41,6 +30,24 @@ pub record Stands (z : ℕ) (c l : List ℕ) : Type 0 where
   pub posBack : (k i : ℕ) → k < recordsOf z l → i < countAt z c l k → posOf z c l (firstAt z c l k + i) ≡ i
   pub only : (k i m j : ℕ) → k < recordsOf z l → i < countAt z c l k → m < recordsOf z l → j < countAt z c l m
       → firstAt z c l k + i ≡ firstAt z c l m + j → (k ≡ m) × (i ≡ j)
+
+-- what a located position has: its question is not refused, the spot's file is its file, which lies in the chain and opens as the spot's record, and has it
+pub record Spotted (z : ℕ) (c l : List ℕ) (g : ℕ) (r : Spot) : Type 0 where
+  pub fine : asked z c l g .number ≡ 0
+  pub file : fileOf z c l g ≡ r .file
+  pub pos : posOf z c l g ≡ r .pos .0
+  pub sum : firstAt z c l (r .file) + r .pos .0 ≡ g
+  pub below : r .file < recordsOf z l
+  pub start : startAt z c l (r .file) ≡ r .start
+  pub size : lengthAt z l (r .file) ≡ r .size
+  pub room : r .start + r .size ≤ length c
+  pub opens : openAt z c l (r .file) ≡ Open (r .inner)
+  pub high : r .pos .0 < r .inner .commits
+
+-- s is a spot's file, as a part of the chain
+pub record FileOf (z : ℕ) (c : RefT (List ℕ)) (l : List ℕ) (r : Spot) (s : RefT (List ℕ)) : Type 0 where
+  pub bytes : s .now ≡ partAt z (c .now) l (r .file)
+  pub place : PartOf c (r .start) (r .size) s
 
 -- ── ids ──
 
@@ -81,40 +88,3 @@ pub record Agrees (z : ℕ) (c l : List ℕ) (g : ℕ) : Type 0 where
   pub same : idOf z c l at ≡ idOf z c l g
   pub below : at ≤ g
   pub lowest : (j : ℕ) → j < at → idOf z c l j ≡ idOf z c l g → ⊥
-
--- ── walks ──
-
--- what a step does to a walk, also where the walk is forged or the chain is refused
-pub record Keeps (z : ℕ) (c l : List ℕ) (w : Walk) : Type 0 where
-  pub commit : stepOf z c l w .next .commit ≡ w .commit
-  pub ended : stepOf z c l w .answer ≡ End → stepOf z c l w .next .phase ≡ Exhausted
-  pub refused : (r : Refusal) → stepOf z c l w .answer ≡ Not r → stepOf z c l w .next .phase ≡ Exhausted
-  pub named : (r : Refusal) → stepOf z c l w .answer ≡ Not r → 0 < r .number
-
--- the steps of a walk followed to its end: the parents that they answer, and the number of the refusal that ends them, or 0
-pub data Follows (z : ℕ) (c l : List ℕ) : Walk → List ℕ → ℕ → Type 0 where
-  ends : {w : Walk} → stepOf z c l w .answer ≡ End → Follows z c l w [] 0
-  stops : {w : Walk} {r : Refusal} → stepOf z c l w .answer ≡ Not r → Follows z c l w [] (r .number)
-  goes : {w : Walk} {p : Ancestor} {ps : List ℕ} {e : ℕ} → stepOf z c l w .answer ≡ Parent p → Follows z c l (stepOf z c l w .next) ps e
-      → Follows z c l w (p .position .0 ∷ ps) e
-
--- each walk is followed to exactly one end
-pub record Ends (z : ℕ) (c l : List ℕ) (w : Walk) : Type 0 where
-  pub parents : List ℕ
-  pub last : ℕ
-  pub follows : Follows z c l w parents last
-  pub only : (ps : List ℕ) (e : ℕ) → Follows z c l w ps e → (ps ≡ parents) × (e ≡ last)
-
--- what is left of the walk over commit i of a file at a phase
-abbrev pub restAt : List ℕ → File → ℕ → Phase → Walked
-restAt p f i s = restOf (rowOf p f i .first) (rowOf p f i .second) (not (absent (f .edge))) (edgePart p f) s
-
-abbrev pub walkAt : ℕ → Phase → Walk
-walkAt g s = record { commit = record { 0 = g }; phase = s }
-
--- followed to its end the walk of position g is the parent list; and from any phase what is left of it, in the open file f
-pub record Lists (z : ℕ) (c l : List ℕ) (g : ℕ) (f : File) : Type 0 where
-  pub rest : (s : Phase) → Follows z c l (walkAt g s)
-      (positions (restAt (partAt z c l (fileOf z c l g)) f (posOf z c l g) s))
-      (endOf (restAt (partAt z c l (fileOf z c l g)) f (posOf z c l g) s))
-  pub whole : Follows z c l (walkAt g First) (parentsAt z c l g) (endOf (walkedAt z c l g))

@@ -3,12 +3,10 @@ use super::survey::Survey;
 use super::survey::nowhere;
 use super::survey::pass;
 use list::check;
-use types::refusal;
-use types::refusal::POSITION;
 use types::refusal::Refusal;
 ghost use mathlib.Core.Path.{_≡_};
 ghost use Rattle.graph.specs.Chain.{openingOf};
-ghost use Rattle.graph.specs.Passes.{Viewed, Located};
+ghost use Rattle.graph.specs.Passes.{Viewed};
 
 // A chain's commits.
 pub enum Opening {
@@ -17,40 +15,20 @@ pub enum Opening {
 }
 
 // Refusals of the list and of each file's opening; the commits, and the file that has position `g`.
-fn view(chain: &[u8], list: &[u8], g: u32) -> Survey
+pub(crate) fn view(chain: &[u8], list: &[u8], g: u32) -> Survey
     ensures { λ r. ⌜ Viewed 32 (now (chain .entry)) (now (list .entry)) g r ⌝ }
 {
     let r = check(list, chain.len());
     if 0 < r.number {
-        let spot = nowhere();
+        let mark = nowhere();
         return Survey {
             refusal: r,
             commits: 0,
-            spot,
+            mark,
         };
     }
     let n = (list.len() / 32) as u32;
     pass(chain, list, 32, n, g)
-}
-
-// The same, and refusal 40.
-pub(crate) fn locate(chain: &[u8], list: &[u8], g: u32) -> Survey
-    ensures { λ r. ⌜ Located 32 (now (chain .entry)) (now (list .entry)) g r ⌝ }
-{
-    let v = view(chain, list, g);
-    let q = v.refusal;
-    let spot = v.spot;
-    if 0 < q.number {
-        return v;
-    }
-    if spot.found {
-        return v;
-    }
-    Survey {
-        refusal: refusal::at(POSITION, 0),
-        commits: v.commits,
-        spot,
-    }
 }
 
 // Opens a chain.

@@ -1,7 +1,6 @@
 // The chain: files end to end in one lent buffer, named by a lent list.
 pub mod init;
+pub mod locate;
 pub mod lookup;
-pub mod parents;
 pub mod positions;
 mod survey;
-pub mod walk;

@@ -1,7 +1,8 @@
 // Lookup of an id in a chain: files in order, so that the oldest copy counts.
+use super::locate::of_file;
 use super::survey::file_at;
-use super::survey::of_file;
 use access::lookup;
+use file::File;
 use file::Opening;
 use file::init::open;
 use list::check;
@@ -12,7 +13,7 @@ use types::refusal::Refusal;
 ghost use mathlib.Core.Path.{_≡_};
 ghost use mathlib.Core.Bool.{Bool};
 ghost use Prim.Native.Nat.{ℕ, _+_, _<_};
-ghost use Rattle.access.specs.Lookup.{found};
+ghost use Rattle.access.specs.Lookup.{found, lookupOf as lookupIn};
 ghost use Rattle.graph.specs.Chain.{Listed};
 ghost use Rattle.graph.specs.Lookups.{notedOf, Looked, lookupOf};
 ghost use Rattle.graph.specs.Theorems.{Right};
@@ -35,15 +36,15 @@ pub struct Search {
     pub hit: Hit,
 }
 
-// What was seen, and then what a file whose first position is `sum` found.
-fn noted(old: Hit, sum: u32, y: access::Found) -> Hit
-    requires { ⌜ ((p : ℕ) → y ≡ found p → sum + p < 4294967296) ⌝ }
-    ensures { λ r. ⌜ r ≡ notedOf old sum y ⌝ }
+// What was seen; while nothing was, the file `f` with the bytes `s` is asked, whose first position is `sum`.
+fn noted(old: Hit, sum: u32, s: &[u8], f: File, x: &[u8]) -> Hit
+    requires { ⌜ ((p : ℕ) → lookupIn (now s) f (now x) ≡ found p → sum + p < 4294967296) ⌝ }
+    ensures { λ r. ⌜ r ≡ notedOf old sum (lookupIn (now (s .entry)) f (now (x .entry))) ⌝ }
 {
     if old.seen {
         return old;
     }
-    match y {
+    match lookup(s, f, x) {
         access::Found::At(p) => {
             let pos = sum + p.0;
             Hit { seen: true, pos }
@@ -53,7 +54,7 @@ fn noted(old: Hit, sum: u32, y: access::Found) -> Hit
     }
 }
 
-// Opens each of the `n` files and looks for `x` in it.
+// Opens each of the `n` files, and looks for `x` in each until it is seen.
 fn look(chain: &[u8], list: &[u8], z: u32, n: u32, x: &[u8]) -> Search
     requires { ⌜ Listed z (now chain) (now list) n ⌝ }
     ensures { λ r. ⌜ Looked z (now (chain .entry)) (now (list .entry)) n (now (x .entry)) r ⌝ }
@@ -76,7 +77,7 @@ fn look(chain: &[u8], list: &[u8], z: u32, n: u32, x: &[u8]) -> Search
                 };
             }
             Opening::Open(f) => {
-                let y = noted(hit, sum, lookup(s, f, x));
+                let y = noted(hit, sum, s, f, x);
                 hit = y;
                 sum += f.commits;
                 at += s.len();

@@ -1,73 +1,65 @@
 // One pass over the files of a chain: each is opened once, and the one that has a position is kept.
+use super::locate::Spot;
+use super::locate::of_file;
 use chunk::Chunk;
 use file::File;
 use file::Opening;
 use file::init::open;
 use list::length_at;
+use types::file::Position;
 use types::refusal;
 use types::refusal::Refusal;
 use words::part::part;
 ghost use mathlib.Core.Path.{_≡_};
 ghost use mathlib.Core.Bool.{false};
-ghost use Rattle.graph.specs.Chain.{Listed, placed, partAt};
+ghost use Rattle.graph.specs.Chain.{Listed, partAt};
 ghost use Rattle.graph.specs.Passes.{keptOf, Surveyed};
 ghost use Prim.Native.Nat.{_≤_, _<_};
 ghost use Rattle.words.specs.Part.{PartOf};
 ghost use Rattle.words.specs.Sums.{before};
 ghost use Rattle.list.specs.List.{lengthAt};
 
-// The file that has the position asked: its index, its start in the chain, the position in it, and its record.
-pub struct Spot {
+// Whether the file that has the position asked was met, and where the position stands.
+pub struct Mark {
     pub found: bool,
-    pub file: u32,
-    pub start: usize,
-    pub pos: u32,
-    pub inner: File,
+    pub spot: Spot,
 }
 
 // The first refusal of a file's opening, the commits of all files, and the file that has the position asked.
 pub struct Survey {
     pub refusal: Refusal,
     pub commits: u32,
-    pub spot: Spot,
-}
-
-// The refusal of file `k`.
-pub fn of_file(k: u32, r: Refusal) -> Refusal
-    ensures { λ x. ⌜ x ≡ placed k r ⌝ }
-{
-    Refusal {
-        number: r.number,
-        file: k,
-        place: r.place,
-    }
+    pub mark: Mark,
 }
 
 // No file yet.
-pub fn nowhere() -> Spot
+pub fn nowhere() -> Mark
     ensures { λ r. ⌜ r .found ≡ false ⌝ }
 {
-    Spot {
+    Mark {
         found: false,
-        file: 0,
-        start: 0,
-        pos: 0,
-        inner: File {
-            commits: 0,
-            bases: 0,
-            width: 0,
-            oidf: 0,
-            oidl: 0,
-            cdat: 0,
-            edge: Chunk::Absent,
-            base: 0,
+        spot: Spot {
+            file: 0,
+            start: 0,
+            size: 0,
+            pos: Position(0),
+            inner: File {
+                commits: 0,
+                bases: 0,
+                width: 0,
+                oidf: 0,
+                oidl: 0,
+                cdat: 0,
+                edge: Chunk::Absent,
+                base: 0,
+            },
         },
     }
 }
 
-// The file `f` that starts at `at` and has the positions from `sum` up to `next`, where `g` is one of them; else what was kept.
-fn kept(old: Spot, g: u32, sum: u32, next: u32, k: u32, at: usize, f: File) -> Spot
-    ensures { λ r. ⌜ r ≡ keptOf old g sum next k at f ⌝ }
+// The file `f` of `size` bytes that starts at `at` and has the positions from `sum` up to `next`, where `g` is one of them; else what was kept.
+fn kept(old: Mark, g: u32, sum: u32, next: u32, k: u32, at: usize, size: usize, f: File) -> Mark
+    ensures { λ r. ⌜ r ≡ keptOf old g sum next k at size f ⌝ }
 {
     if g < sum {
         return old;
@@ -75,12 +67,15 @@ fn kept(old: Spot, g: u32, sum: u32, next: u32, k: u32, at: usize, f: File) -> S
     if next <= g {
         return old;
     }
-    Spot {
+    Mark {
         found: true,
-        file: k,
-        start: at,
-        pos: g - sum,
-        inner: f,
+        spot: Spot {
+            file: k,
+            start: at,
+            size,
+            pos: Position(g - sum),
+            inner: f,
+        },
     }
 }
 
@@ -95,8 +90,7 @@ pub(crate) fn file_at<'a, 'b>(
 ) -> &'a [u8]
     requires { ⌜ Listed z (now chain) (now list) n ⌝ }
     requires { ⌜ (k < n) × (at ≡ before (lengthAt z (now list)) k) ⌝ }
-    ensures bytes { λ r. ⌜ now r ≡ partAt z (now (chain .entry)) (now (list .entry)) k ⌝ }
-    ensures place { λ r. ⌜ PartOf (chain .entry) at (lengthAt z (now (list .entry)) k) r ⌝ }
+    ensures { λ r. ⌜ now r ≡ partAt z (now (chain .entry)) (now (list .entry)) k ⌝ }
 {
     part(chain, at, length_at(list, z, k) as usize, 1)
 }
@@ -109,7 +103,7 @@ pub(crate) fn pass(chain: &[u8], list: &[u8], z: u32, n: u32, g: u32) -> Survey
     let mut k = 0;
     let mut at = 0;
     let mut sum = 0;
-    let mut spot = nowhere();
+    let mut mark = nowhere();
     while k < n {
         let s = file_at(chain, list, z, n, k, at);
         let o = open(s);
@@ -118,13 +112,13 @@ pub(crate) fn pass(chain: &[u8], list: &[u8], z: u32, n: u32, g: u32) -> Survey
                 return Survey {
                     refusal: of_file(k, r),
                     commits: sum,
-                    spot,
+                    mark,
                 };
             }
             Opening::Open(f) => {
                 let next = sum + f.commits;
-                let x = kept(spot, g, sum, next, k, at, f);
-                spot = x;
+                let x = kept(mark, g, sum, next, k, at, s.len(), f);
+                mark = x;
                 sum = next;
                 at += s.len();
                 k += 1;
@@ -134,6 +128,6 @@ pub(crate) fn pass(chain: &[u8], list: &[u8], z: u32, n: u32, g: u32) -> Survey
     Survey {
         refusal: refusal::at(0, 0),
         commits: sum,
-        spot,
+        mark,
     }
 }

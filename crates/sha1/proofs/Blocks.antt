@@ -3,11 +3,10 @@ use mathlib.Core.Path.{_≡_, refl, sym, ap, ap₂, _∙_}
 use Prim.Native.Nat.{ℕ, zero, suc, _+_, _-_, _*_, _/_, _%_, _≤_, _<_}
 use mathlib.Core.List.{List, [], _∷_, _++_, append-assoc, append-nil}
 use native.Mathlib.Nat.{add-zero, add-suc, le-of-eq}
-use native.Mathlib.Numerals.{add-one}
 use native.Mathlib.Omega.{arith}
 use lib.ListN.{length, take, drop, replicate, length-append, length-drop, take-append-drop}
 use lib.Seq.{take-append-le, drop-append-le, drop-append-add, take-all, length-take-le}
-use Rattle.sha1.specs.Message.{block, after, afterAll}
+use Rattle.block.specs.Message.{block, after, afterAll}
 use Rattle.sha1.specs.Feed.{rest, padded}
 
 -- the list of `&l[a..]`
@@ -79,11 +78,6 @@ module _ (o s : List ℕ) (r : ℕ) (e : length o + r ≡ 64) (h : r ≤ length 
   rest-fills = sym (ap rest cut ∙ rest-joins (o ++ take r s) (drop r s) 1 full)
 
 module _ (step : List ℕ → List ℕ → List ℕ) where
-  -- one block more
-  pub stepped : (h s w : List ℕ) (i : ℕ) → w ≡ after step h s i → step w (block s i) ≡ after step h s (i + 1)
-  unfolding after
-  stepped h s w i e = rw add-one (rw e)
-
   after-low : (w p r : List ℕ) (n : ℕ) → 64 * n ≤ length p → after step w (p ++ r) n ≡ after step w p n
   unfolding after
   after-low w p r zero h = refl

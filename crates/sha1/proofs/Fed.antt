@@ -13,7 +13,8 @@ use Rattle.words.specs.Big.{bytesOf}
 use Rattle.words.specs.First.{first}
 use Rattle.words.proofs.Numbers.{bytes-same}
 use Rattle.words.proofs.Searches.{first-is}
-use Rattle.sha1.specs.Message.{fills, padding, afterAll}
+use Rattle.block.specs.Message.{afterAll}
+use Rattle.sha1.specs.Message.{fills, padding}
 use Rattle.sha1.specs.Feed.{rest, padded, opened, nextBlock, nextWords, nextCount}
 use Rattle.sha1.proofs.Blocks.{goes-on, rest-goes-on, length-rest}
 

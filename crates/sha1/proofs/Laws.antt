@@ -4,9 +4,11 @@ use Prim.Native.Nat.{ℕ, _+_, _%_, _^_}
 use mathlib.Core.List.{List, [], _++_}
 use native.Mathlib.Omega.{arith}
 use lib.ListN.{length}
-use Rattle.sha1.specs.Message.{padding, bytes, digestOf, afterAll, after}
+use Rattle.block.specs.Message.{after, afterAll}
+use Rattle.block.specs.Fips.{compress}
+use Rattle.sha1.specs.Message.{padding, bytes, digestOf}
 use Rattle.sha1.specs.Feed.{rest, padded, opened, nextBlock, nextWords, nextCount}
-use Rattle.sha1.specs.Fips.{compress, sha1Of, initial}
+use Rattle.sha1.specs.Fips.{sha1Of, initial}
 use Rattle.sha1.specs.State.{started, updated, finished, hasherOf}
 use Rattle.sha1.specs.declared.hasher.Hasher.{Hasher}
 use Rattle.sha1.proofs.Fed.{block-twice, words-twice, count-twice, padding-mod}

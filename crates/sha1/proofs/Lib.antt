@@ -1,4 +1,3 @@
-pub mod Schedule
 pub mod Blocks
 pub mod Fed
 pub mod Laws

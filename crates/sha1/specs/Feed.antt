@@ -2,7 +2,7 @@
 use Prim.Native.Nat.{ℕ, _+_, _-_, _*_, _/_, _%_, _^_}
 use mathlib.Core.List.{List, _++_}
 use lib.ListN.{length, take, drop, replicate}
-use Rattle.sha1.specs.Message.{afterAll}
+use Rattle.block.specs.Message.{afterAll}
 
 -- what is left of d behind its whole blocks
 unfoldable pub rest : List ℕ → List ℕ

@@ -1,11 +1,12 @@
--- A message in blocks of 64 bytes, over the step that one block makes: FIPS 180-4, sections 5.1.1, 5.2.1 and the outer loop of 6.1.2.
-use Prim.Native.Nat.{ℕ, zero, suc, _+_, _*_, _/_, _%_}
+-- What stands behind a message, and its digest, over the step that one block makes: FIPS 180-4, section 5.1.1 and the end of 6.1.2.
+use Prim.Native.Nat.{ℕ, _+_, _*_, _%_}
 use mathlib.Core.Bool.{Bool}
 use mathlib.Core.List.{List, [], _∷_, _++_}
 use lib.Dec.{eqb}
-use lib.ListN.{length, take, drop, replicate}
+use lib.ListN.{length, replicate}
 use Rattle.words.specs.Big.{bytesOf}
 use Rattle.words.specs.First.{first}
+use Rattle.block.specs.Message.{afterAll}
 
 -- 5.1.1: behind a message of n bytes stand a one bit and seven zero bits, the fewest zero bytes that leave eight bytes of a block
 -- (448 modulo 512 bits), and the length in bits as a number of 64 bits
@@ -14,18 +15,6 @@ fills n z = eqb ((n + 1 + z) % 64) 56
 
 unfoldable pub padding : ℕ → List ℕ
 padding n = (0x80 ∷ replicate (first (fills n) 0 64) 0) ++ bytesOf 8 (8 * n)
-
--- 5.2.1: block i of a message
-unfoldable pub block : List ℕ → ℕ → List ℕ
-block m i = take 64 (drop (64 * i) m)
-
--- 6.1.2: the words after the first n blocks, and after all whole blocks
-unfoldable pub after : (List ℕ → List ℕ → List ℕ) → List ℕ → List ℕ → ℕ → List ℕ
-after step h m zero = h
-after step h m (suc n) = step (after step h m n) (block m n)
-
-unfoldable pub afterAll : (List ℕ → List ℕ → List ℕ) → List ℕ → List ℕ → List ℕ
-afterAll step h m = after step h m (length m / 64)
 
 -- 3.1: the bytes of words of 32 bits, the highest first
 unfoldable pub bytes : List ℕ → List ℕ

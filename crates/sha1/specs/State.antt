@@ -2,9 +2,10 @@
 use mathlib.Core.List.{List}
 use Prim.Native.Nat.{ℕ}
 use lib.ListN.{replicate}
+use Rattle.block.specs.Fips.{compress}
 use Rattle.sha1.specs.Message.{padding, bytes}
 use Rattle.sha1.specs.Feed.{nextBlock, nextWords, nextCount}
-use Rattle.sha1.specs.Fips.{compress, initial}
+use Rattle.sha1.specs.Fips.{initial}
 use Rattle.sha1.specs.declared.hasher.Hasher.{Hasher}
 
 unfoldable pub started : Hasher

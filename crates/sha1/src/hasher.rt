@@ -1,9 +1,9 @@
 // A digest taken piece by piece. A hasher holds the bytes of the open block, the five words after the blocks before it, and the
 // count of all bytes. How many bytes are open is the count's remainder by 64, so every value of the struct is a hasher.
-use super::block::blocks;
 use super::fields::digest;
 use super::fields::joined;
 use super::fields::length_bytes;
+use block::blocks;
 ghost use mathlib.Core.Path.{_≡_};
 ghost use Rattle.sha1.specs.State.{started, updated, finished};
 

@@ -1,5 +1,5 @@
-// SHA-1, as FIPS 180-4 defines it. specs/Fips.antt is the standard; each function here is equal to a definition there.
-mod block;
+// SHA-1, as FIPS 180-4 defines it. specs/Fips.antt is the standard, with that of the crate `block` for one block; each function here is equal
+// to a definition there.
 mod fields;
 pub mod hasher;
 

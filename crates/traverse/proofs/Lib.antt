@@ -1,4 +1,2 @@
-pub mod Trailers
-pub mod Entries
 pub mod Scanning
 pub mod Traversing

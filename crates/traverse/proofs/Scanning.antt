@@ -20,20 +20,20 @@ use Rattle.ancestry.proofs.Counts.{counts-none}
 use Rattle.ancestry.proofs.Scans.{Sofar, sofar-begins, sofar-next, sofar-stops, sofar-ends, highest-adds, lowest-begins, lowest-adds, counts-adds, counts-small}
 use Rattle.file.proofs.Fitting.{run-within}
 use Rattle.commit.specs.Commits.{commitOf, commitIn, rowRule, refuseCommit}
-use Rattle.commit.specs.Walks.{endOf, countOf}
+use Rattle.parents.specs.Walks.{endOf, countOf}
 use Rattle.commit.specs.declared.Commit.{Commit}
-use Rattle.commit.specs.declared.parents.Counted.{Counted}
-use Rattle.commit.specs.declared.parents.Counted.the-variants.{Count, Refused as Stopped}
-use Rattle.commit.proofs.Walking.{count-all, count-short}
+use Rattle.parents.specs.declared.Counted.{Counted}
+use Rattle.parents.specs.declared.Counted.the-variants.{Count, Refused as Stopped}
+use Rattle.parents.proofs.Walking.{count-all, count-short}
 use Rattle.commit.specs.declared.Asked.{Asked}
 use Rattle.commit.specs.declared.Asked.the-variants.{Commit as Is, Refused}
 use Rattle.types.specs.declared.refusal.Refusal.{Refusal}
-use Rattle.traverse.specs.Rules.{entryRule, entryIn}
+use Rattle.rules.specs.Rules.{entryRule, entryIn}
 use Rattle.traverse.specs.Traversal.{Parts, partsOf, genIn, walkIn, parentsIn, commitRule, bad, badCommit, commitRules, keyIn}
 use Rattle.traverse.specs.Scans.{Holds, TriedAs, lowerOf, ScannedAs}
 use Rattle.traverse.specs.declared.commits.Tried.{Tried}
 use Rattle.traverse.specs.declared.commits.Scanned.{Scanned}
-use Rattle.traverse.proofs.Entries.{or-hit, or-miss, entry-plain}
+use Rattle.rules.proofs.Entries.{or-hit, or-miss, entry-plain}
 
 -- ── one commit ──
 

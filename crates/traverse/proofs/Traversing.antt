@@ -20,14 +20,14 @@ use Rattle.file.specs.declared.Opening.{Opening}
 use Rattle.file.specs.declared.Opening.the-variants.{Open, Refused}
 use Rattle.file.proofs.Opens.{opened}
 use Rattle.file.proofs.Fitting.{fitted}
-use Rattle.traverse.specs.Rules.{sumRule, nameRule, sumIn, nameIn}
+use Rattle.rules.specs.Rules.{sumRule, nameRule, sumIn, nameIn}
 use Rattle.traverse.specs.Traversal.{partsOf, summaryOf, refusedBy, refuse, traverseBy, oneRule, onePlace, traversal, checksumRule}
 use Rattle.traverse.specs.Scans.{ScannedAs}
 use Rattle.traverse.specs.declared.commits.Scanned.{Scanned}
 use Rattle.traverse.specs.declared.Verdict.the-variants.{Accepted}
 use Rattle.traverse.specs.declared.Traversal.{Traversal}
-use Rattle.traverse.proofs.Entries.{or-hit, or-miss}
-use Rattle.traverse.proofs.Trailers.{sum-plain, name-plain}
+use Rattle.rules.proofs.Entries.{or-hit, or-miss}
+use Rattle.rules.proofs.Trailers.{sum-plain, name-plain}
 
 -- ── the list ──
 

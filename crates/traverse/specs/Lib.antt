@@ -1,4 +1,2 @@
-pub mod Rules
-pub mod Facts
 pub mod Traversal
 pub mod Scans

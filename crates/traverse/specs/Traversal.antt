@@ -17,8 +17,8 @@ use Rattle.file.specs.declared.File.{File}
 use Rattle.file.specs.declared.Opening.{Opening}
 use Rattle.file.specs.declared.Opening.the-variants.{Open, Refused}
 use Rattle.commit.specs.Commits.{commitOf}
-use Rattle.commit.specs.Walks.{Walked, positions, endOf, firstWalk}
-use Rattle.traverse.specs.Rules.{_or_, sumRule, nameRule, entryRule}
+use Rattle.parents.specs.Walks.{Walked, positions, endOf, firstWalk}
+use Rattle.rules.specs.Rules.{_or_, sumRule, nameRule, entryRule}
 use Rattle.traverse.specs.declared.Summary.{Summary}
 use Rattle.traverse.specs.declared.Verdict.the-variants.{Accepted, Refused as Not}
 use Rattle.traverse.specs.declared.Traversal.{Traversal}

@@ -1,13 +1,13 @@
 // The commits of one file in turn: the first refusal, and what they add up to.
-use super::rules::entry_in;
 use chunk::missing;
 use chunk::size;
 use chunk::start;
 use commit::Asked;
 use commit::commit_in;
-use commit::parents::Counted;
-use commit::parents::count_in;
 use file::File;
+use parents::Counted;
+use parents::count_in;
+use rules::entry_in;
 use types::file::Position;
 use words::part::part;
 ghost use mathlib.Core.Path.{_≡_};

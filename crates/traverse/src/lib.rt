@@ -1,6 +1,5 @@
 // One file verified: its trailer, its name, and each of its commits.
 pub mod commits;
-pub mod rules;
 
 use access::Asking;
 use commits::commits;
@@ -11,11 +10,11 @@ use file::init::open;
 use list::check;
 use rules::name_in;
 use rules::sum_in;
-use rules::trailer;
 use types::refusal;
 use types::refusal::LIST_SIZE;
 use types::refusal::Refusal;
 use types::refusal::TOO_LARGE;
+use words::part::part;
 ghost use mathlib.Core.Path.{_≡_};
 ghost use Prim.Native.Nat.{_-_};
 ghost use lib.ListN.{length};
@@ -52,7 +51,7 @@ pub fn checksum<'a>(s: &'a [u8], f: File) -> &'a [u8]
     if 0 < fit(s, f) {
         return &s[0..0];
     }
-    trailer(s, f.width)
+    part(s, s.len() - f.width, f.width, 1)
 }
 
 // Which refusal the trailer meets: 62, or 40 where the record does not fit.

@@ -10,25 +10,24 @@ use native.Mathlib.Numerals.{add-one}
 use lib.Dec.{ltb, lit<}
 use lib.ListN.{length}
 use borrow.Author.Tests.{le-ltb, lt-leb, ltb-true, ltb-false, leb-false, eqb-true, not-false}
-use Rattle.types.specs.Refusals.{refusal}
 use Rattle.types.specs.declared.refusal.Refusal.{Refusal}
 use Rattle.words.specs.First.{_if_else_, first}
 use Rattle.words.proofs.Rows.{miss, pass, eq-not}
 use Rattle.words.proofs.Searches.{first-hit, first-none}
-use Rattle.list.specs.List.{recordsOf, listRule, listPlace}
+use Rattle.list.specs.List.{recordsOf}
 use Rattle.file.specs.Fits.{fanPart, idsPart, rowsPart}
 use Rattle.file.specs.declared.File.{File}
 use Rattle.file.specs.declared.Opening.{Opening}
 use Rattle.file.specs.declared.Opening.the-variants.{Open, Refused as Shut}
-use Rattle.commit.specs.Walks.{Walked, ends, parent, positions, endOf, walkOf}
-use Rattle.traverse.specs.Rules.{sumRule}
-use Rattle.traverse.proofs.Entries.{or-miss, or-none, entry-sound, entry-whole}
-use Rattle.traverse.proofs.Trailers.{sum-sound, sum-whole, name-sound, name-whole}
-use Rattle.graph.specs.Chain.{commitsOf, pickRefusal, orElse, partAt, openAt, countAt, firstAt, commitsIn, openFrom, opened, Listed}
-use Rattle.graph.specs.Lists.{walkIn}
+use Rattle.parents.specs.Walks.{Walked, ends, parent, positions, endOf, walkOf}
+use Rattle.rules.specs.Rules.{sumRule}
+use Rattle.rules.proofs.Entries.{or-miss, or-none, entry-sound, entry-whole}
+use Rattle.rules.proofs.Trailers.{sum-sound, sum-whole, name-sound, name-whole}
+use Rattle.graph.specs.Chain.{commitsOf, partAt, openAt, countAt, firstAt, commitsIn, openFrom, opened, Listed}
 use Rattle.graph.specs.Questions.{widthIn}
 use Rattle.graph.proofs.Passing.{Along, along-begins, along-refused, along-next}
-use Rattle.graph.proofs.Views.{numbers, list-listed}
+use Rattle.graph.proofs.Views.{numbers, opened-halves, opened-listed}
+use Rattle.walk.specs.Lists.{walkIn}
 use Rattle.verify.specs.Files.{basesIn, baseIn, genIn, entryAt, genAt}
 use Rattle.verify.specs.Rules.{walkRule, alien, badBase, baseRule, headRule, genRule, commitRule, bad, badCommit, commitRules, refuse, pickVerified, accepted, refusedBy, verifyFrom, verification}
 use Rattle.verify.specs.Facts.{SoundCommit, SoundFile, Sound}
@@ -96,14 +95,6 @@ refuse-none n i place rest e = rw e
 
 -- ── the opening: each file opens, and its commits are few ──
 
-else-none : (a b : Refusal) → orElse a b .number ≡ 0 → (a .number ≡ 0) × (b .number ≡ 0)
-unfolding orElse pickRefusal
-else-none a b = go (ltb 0 (a .number)) refl
-  where
-    go : (t : Bool) → ltb 0 (a .number) ≡ t → pickRefusal t a b .number ≡ 0 → (a .number ≡ 0) × (b .number ≡ 0)
-    go true q e = absurd (omega (arith, ltb-true 0 (a .number) q))
-    go false q e = (omega (arith, ltb-false 0 (a .number) q), e)
-
 module _ (z : ℕ) (c l : List ℕ) where
   module _ (n : ℕ) (d : Listed z c l n) (y : openFrom z c l 0 n .number ≡ 0) where
     open-next : (k at sum : ℕ) → Along z c l n k at sum → k < n → (f : File) × (openAt z c l k ≡ Open f)
@@ -124,22 +115,21 @@ module _ (z : ℕ) (c l : List ℕ) where
         )
 
   module _ (y : opened z c l .number ≡ 0) where
-    halves : (listRule z (length c) l ≡ 0) × (openFrom z c l 0 (recordsOf z l) .number ≡ 0)
-    unfolding opened
-    halves = else-none (refusal (listRule z (length c) l) (listPlace z (length c) l)) (openFrom z c l 0 (recordsOf z l)) y
-
     pub listed : Listed z c l (recordsOf z l)
-    listed = list-listed z c l (refusal (listRule z (length c) l) (listPlace z (length c) l)) refl (omega (arith, halves .0))
+    listed = opened-listed z c l y
+
+    opens : openFrom z c l 0 (recordsOf z l) .number ≡ 0
+    opens = opened-halves z c l y .1
 
     pub all-open : (k : ℕ) → k < recordsOf z l → (f : File) × (openAt z c l k ≡ Open f)
     all-open k h =
-        let (at, sum, p) = along (recordsOf z l) listed (halves .1) k (omega arith) in
-        open-next (recordsOf z l) listed (halves .1) k at sum p h
+        let (at, sum, p) = along (recordsOf z l) listed opens k (omega arith) in
+        open-next (recordsOf z l) listed opens k at sum p h
 
     -- 36 bytes a commit, in at most 1 GiB
     pub commits-few : commitsIn z c l * 36 ≤ 1073741824
     commits-few =
-        let (at, sum, p) = along (recordsOf z l) listed (halves .1) (recordsOf z l) (le-refl _) in
+        let (at, sum, p) = along (recordsOf z l) listed opens (recordsOf z l) (le-refl _) in
         omega (arith, p .small, p .place, p .total, listed .files, listed .most)
 
   -- ── file i, with the record f ──

@@ -18,13 +18,13 @@ use Rattle.file.specs.declared.File.{File}
 use Rattle.file.specs.declared.Opening.the-variants.{Open}
 use Rattle.access.specs.Lookup.{keyOf, leading, Ordered}
 use Rattle.commit.specs.Commits.{rowOf}
-use Rattle.commit.specs.Walks.{positions, walkOf}
+use Rattle.parents.specs.Walks.{positions, walkOf}
 use Rattle.graph.specs.Chain.{partAt, openAt, countAt, firstAt, commitsIn, fileOf, posOf}
-use Rattle.graph.specs.Lists.{walkIn, walkedAt, parentsAt}
 use Rattle.graph.specs.Lookups.{lookupOf}
 use Rattle.graph.specs.Theorems.{Sorted, Exact}
 use Rattle.graph.proofs.Exactly.{exact}
 use Rattle.graph.proofs.Standing.{stands}
+use Rattle.walk.specs.Lists.{walkIn, walkedAt, parentsAt}
 use Rattle.verify.specs.Files.{genIn, genAt, keyAt}
 use Rattle.verify.specs.Rules.{lengthBy, accepted, verification}
 use Rattle.verify.specs.Facts.{SoundCommit, SoundFile, Sound, lengthIn, Counted, Claimed, ClaimsBy, Claims}

@@ -23,9 +23,9 @@ use Rattle.file.specs.Fits.{basePart}
 use Rattle.file.specs.declared.File.{File}
 use Rattle.file.specs.declared.Opening.the-variants.{Open}
 use Rattle.file.proofs.Opens.{opened}
-use Rattle.traverse.specs.Rules.{_or_, trailerOf, sumIn, sumRule, nameIn, nameRule}
-use Rattle.traverse.proofs.Entries.{or-hit, or-miss}
-use Rattle.traverse.proofs.Trailers.{sum-plain, name-plain}
+use Rattle.rules.specs.Rules.{_or_, trailerOf, sumIn, sumRule, nameIn, nameRule}
+use Rattle.rules.proofs.Entries.{or-hit, or-miss}
+use Rattle.rules.proofs.Trailers.{sum-plain, name-plain}
 use Rattle.graph.specs.Chain.{startAt, partAt, openAt}
 use Rattle.graph.specs.Questions.{widthIn}
 use Rattle.graph.proofs.Passing.{part-long}

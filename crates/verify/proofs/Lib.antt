@@ -4,5 +4,4 @@ pub mod Acceptance
 pub mod Demands
 pub mod Heading
 pub mod Trying
-pub mod Tossed
 pub mod Filing

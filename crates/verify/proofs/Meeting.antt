@@ -8,10 +8,10 @@ use lib.ListN.{length}
 use borrow.Author.Tests.{le-leb, lt-leb}
 use Rattle.words.specs.First.{_if_else_}
 use Rattle.ancestry.specs.Graph.{highestIn}
-use Rattle.commit.specs.Walks.{Walked, ends, parent, positions}
+use Rattle.parents.specs.Walks.{Walked, ends, parent, positions}
 use Rattle.verify.specs.Rules.{walkRule}
 use Rattle.verify.specs.Scans.{pickMet, metOf}
-use Rattle.verify.specs.declared.parents.Met.{Met}
+use Rattle.verify.specs.declared.meets.Met.{Met}
 
 module _ (limit : ℕ) (gen : ℕ → ℕ) where
   -- the ways through what is left of a walk

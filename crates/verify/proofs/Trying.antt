@@ -23,23 +23,23 @@ use Rattle.ancestry.specs.Graph.{highestIn, highestBelow, rightGen, cap}
 use Rattle.ancestry.specs.Counts.{keyOf, countsOf}
 use Rattle.ancestry.proofs.Scans.{Sofar, sofar-begins, sofar-next, sofar-stops, sofar-ends, highest-adds, counts-adds, counts-small}
 use Rattle.commit.specs.Commits.{commitOf, commitIn, rowOf}
-use Rattle.commit.specs.Walks.{positions, firstWalk, walkOf}
+use Rattle.parents.specs.Walks.{positions, firstWalk, walkOf}
 use Rattle.commit.specs.declared.Commit.{Commit}
 use Rattle.commit.specs.declared.Asked.{Asked}
 use Rattle.commit.specs.declared.Asked.the-variants.{Commit as Is, Refused}
 use Rattle.types.specs.declared.refusal.Refusal.{Refusal}
-use Rattle.traverse.specs.Rules.{_or_, entryRule, entryIn}
+use Rattle.rules.specs.Rules.{_or_, entryRule, entryIn}
 use Rattle.traverse.specs.Traversal.{Parts, partsOf}
 use Rattle.traverse.specs.Scans.{Holds}
-use Rattle.traverse.proofs.Entries.{or-hit, or-miss}
+use Rattle.rules.proofs.Entries.{or-hit, or-miss}
 use Rattle.traverse.proofs.Scanning.{entry-is, row-is}
 use Rattle.graph.specs.Chain.{partAt, openAt, countAt, firstAt}
-use Rattle.graph.specs.Lists.{walkIn, walkedAt}
 use Rattle.graph.proofs.Standing.{stands}
+use Rattle.walk.specs.Lists.{walkIn, walkedAt}
 use Rattle.verify.specs.Files.{genIn, entryAt, genAt, keyAt}
 use Rattle.verify.specs.Rules.{walkRule, genRule, commitRule, bad, badCommit, commitRules}
 use Rattle.verify.specs.Scans.{Tabled, Cut, metOf, TriedAs, ScannedAs}
-use Rattle.verify.specs.declared.parents.Met.{Met}
+use Rattle.verify.specs.declared.meets.Met.{Met}
 use Rattle.verify.specs.declared.commits.Tried.{Tried}
 use Rattle.verify.specs.declared.commits.Scanned.{Scanned}
 use Rattle.verify.proofs.Heading.{is-open}

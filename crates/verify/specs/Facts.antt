@@ -13,12 +13,12 @@ use Rattle.file.specs.Fits.{fanPart, idsPart, rowsPart, basePart}
 use Rattle.file.specs.declared.File.{File}
 use Rattle.file.specs.declared.Opening.the-variants.{Open}
 use Rattle.commit.specs.Commits.{rowOf}
-use Rattle.commit.specs.Walks.{positions, endOf, walkOf}
-use Rattle.traverse.specs.Facts.{Summed, Named, Entry}
+use Rattle.parents.specs.Walks.{positions, endOf, walkOf}
+use Rattle.rules.specs.Facts.{Summed, Named, Entry}
 use Rattle.graph.specs.Chain.{partAt, openAt, firstAt, commitsIn, opened}
-use Rattle.graph.specs.Lists.{parentsAt}
 use Rattle.graph.specs.Lookups.{lookupOf}
 use Rattle.graph.specs.Theorems.{Exact}
+use Rattle.walk.specs.Lists.{parentsAt}
 use Rattle.verify.specs.Files.{trailerAt, genAt, keyAt}
 use Rattle.verify.specs.declared.Length.{Length}
 use Rattle.verify.specs.declared.Length.the-variants.{Steps, Cyclic}

@@ -10,10 +10,10 @@ use Rattle.file.specs.declared.Opening.{Opening}
 use Rattle.file.specs.declared.Opening.the-variants.{Open, Refused}
 use Rattle.ancestry.specs.Counts.{keyOf}
 use Rattle.commit.specs.Commits.{rowOf}
-use Rattle.traverse.specs.Rules.{trailerOf, sumRule, nameRule, entryRule}
+use Rattle.rules.specs.Rules.{trailerOf, sumRule, nameRule, entryRule}
 use Rattle.graph.specs.Chain.{partAt, openAt, fileOf, posOf}
 use Rattle.graph.specs.Questions.{widthIn}
-use Rattle.graph.specs.Lists.{parentsAt}
+use Rattle.walk.specs.Lists.{parentsAt}
 
 -- ── one file of bytes p; nothing where it does not open ──
 

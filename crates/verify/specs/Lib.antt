@@ -2,4 +2,3 @@ pub mod Files
 pub mod Rules
 pub mod Scans
 pub mod Facts
-pub mod Coins

@@ -10,11 +10,11 @@ use Rattle.words.specs.First.{_if_else_, first}
 use Rattle.ancestry.specs.Graph.{rightGen, highestBelow, lengthOf}
 use Rattle.ancestry.specs.Counts.{countsOf}
 use Rattle.list.specs.List.{recordsOf}
-use Rattle.commit.specs.Walks.{Walked, ends, parent, positions}
-use Rattle.traverse.specs.Rules.{_or_, sumRule, nameRule}
+use Rattle.parents.specs.Walks.{Walked, ends, parent, positions}
+use Rattle.rules.specs.Rules.{_or_, sumRule, nameRule}
 use Rattle.graph.specs.Chain.{partAt, openAt, countAt, firstAt, commitsIn, opened}
 use Rattle.graph.specs.Questions.{widthIn}
-use Rattle.graph.specs.Lists.{walkIn}
+use Rattle.walk.specs.Lists.{walkIn}
 use Rattle.verify.specs.Files.{basesIn, baseIn, genIn, entryAt, trailerAt, genAt, keyAt}
 use Rattle.verify.specs.declared.Length.{Length}
 use Rattle.verify.specs.declared.Length.the-variants.{Steps, Cyclic}

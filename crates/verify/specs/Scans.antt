@@ -13,13 +13,13 @@ use Rattle.file.specs.Fits.{fanPart, idsPart, rowsPart, edgePart}
 use Rattle.file.specs.declared.File.{File}
 use Rattle.file.specs.declared.Opening.{Opening}
 use Rattle.file.specs.declared.Opening.the-variants.{Open, Refused}
-use Rattle.commit.specs.Walks.{Walked, ends, parent, positions}
+use Rattle.parents.specs.Walks.{Walked, ends, parent, positions}
 use Rattle.graph.specs.Chain.{startAt, partAt, openAt, countAt, firstAt, openFrom, Listed}
-use Rattle.graph.specs.Lists.{walkIn}
+use Rattle.walk.specs.Lists.{walkIn}
 use Rattle.verify.specs.Files.{genIn, genAt, keyAt}
 use Rattle.verify.specs.Rules.{headRule, headPlace, commitRule, badCommit, commitRules}
 use Rattle.verify.specs.declared.tables.Tables.{Tables}
-use Rattle.verify.specs.declared.parents.Met.{Met}
+use Rattle.verify.specs.declared.meets.Met.{Met}
 use Rattle.verify.specs.declared.commits.Tried.{Tried}
 use Rattle.verify.specs.declared.commits.Scanned.{Scanned}
 use Rattle.verify.specs.declared.heads.Judged.{Judged}

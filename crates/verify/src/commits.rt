@@ -1,13 +1,13 @@
 // The commits of one file of a chain in turn: the first refusal, and what they add to the counts and the highest generation.
-use super::parents::meet;
+use super::meets::meet;
 use chunk::missing;
 use chunk::size;
 use chunk::start;
 use commit::Asked;
 use commit::commit_in;
 use file::File;
+use rules::entry_in;
 use traverse::commits::key;
-use traverse::rules::entry_in;
 use types::file::Position;
 use types::refusal::GENERATION;
 use words::part::part;

@@ -1,7 +1,7 @@
 // Refusals 60 to 63 of one file of a chain: its bases, its trailer and its name.
 use file::File;
-use traverse::rules::name_in;
-use traverse::rules::sum_in;
+use rules::name_in;
+use rules::sum_in;
 use types::refusal::BASE_ID;
 use types::refusal::BASES;
 use words::order::same;

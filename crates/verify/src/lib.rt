@@ -1,15 +1,15 @@
 // Verification of a chain: every file and every commit, the first refusal, or what the commits add up to.
 mod commits;
 mod heads;
-mod parents;
+mod meets;
 mod tables;
 
 use commits::commits;
 use file::Opening;
 use file::init::open;
+use graph::locate::of_file;
 use heads::head;
 use list::check;
-use tables::of_file;
 use tables::survey;
 use types::refusal;
 use types::refusal::Refusal;

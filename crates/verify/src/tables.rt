@@ -1,13 +1,14 @@
 // One pass over the files of a chain: each is opened, and tables say where they lie.
 use file::Opening;
 use file::init::open;
+use graph::locate::of_file;
 use list::length_at;
 use types::refusal;
 use types::refusal::Refusal;
 use words::part::part;
 ghost use mathlib.Core.Path.{_≡_};
 ghost use Rattle.list.specs.List.{recordsOf};
-ghost use Rattle.graph.specs.Chain.{Listed, placed};
+ghost use Rattle.graph.specs.Chain.{Listed};
 ghost use Rattle.verify.specs.Scans.{Opens};
 
 // The first refusal of a file's opening; where each file starts, in bytes and in positions, the end too; and where its CDAT chunk lies in the chain.
@@ -16,17 +17,6 @@ pub struct Tables {
     pub starts: [usize; 257],
     pub firsts: [usize; 257],
     pub rows: [usize; 257],
-}
-
-// The refusal of file `k`.
-pub(crate) fn of_file(k: u32, r: Refusal) -> Refusal
-    ensures { λ x. ⌜ x ≡ placed k r ⌝ }
-{
-    Refusal {
-        number: r.number,
-        file: k,
-        place: r.place,
-    }
 }
 
 // Opens each of the `n` files.

@@ -24,27 +24,27 @@ file-at-requires c κs = (c .before .before .before .before .before .pre, (c .lo
 
 returns : tie.Need-returns Inv-loop μ-loop
 returns c =
-    rw (c .of-file .ensures) (look-refused (c .before .before .before .before .before .before .before .before .before .before .before .args .z) (now (c .before .before .before .before .before .before .before .before .before .before .before .args .chain)) (now (c .before .before .before .before .before .before .before .before .before .before .before .args .list)) (c .before .before .before .before .before .before .before .before .before .before .before .args .n) (c .before .before .before .before .before .before .before .before .before .before .before .pre) (now (c .before .before .before .before .before .before .before .before .before .before .before .args .x)) (c .before .before .before .before .before .before .before .loop .k) (c .before .before .before .before .before .before .before .loop .at) (c .before .before .before .before .before .before .before .loop .sum) (c .before .before .before .before .before .before .before .loop .hit) (c .before .before .before .before .before .before .before .loop .inv) (c .before .before .before .before .before .before .loop-test .taken) _ (open-is (c .before .before .before .before .before .before .before .before .before .before .before .args .z) (now (c .before .before .before .before .before .before .before .before .before .before .before .args .chain)) (now (c .before .before .before .before .before .before .before .before .before .before .before .args .list)) (c .before .before .before .before .before .before .before .loop .k) _ _ _ (c .before .before .before .before .before .file-at .ensures .0) (c .before .before .before .before .«open» .ensures) (c .before .before .o .given .1)))
+    rw (c .of-file .ensures) (look-refused (c .before .before .before .before .before .before .before .before .before .before .before .args .z) (now (c .before .before .before .before .before .before .before .before .before .before .before .args .chain)) (now (c .before .before .before .before .before .before .before .before .before .before .before .args .list)) (c .before .before .before .before .before .before .before .before .before .before .before .args .n) (c .before .before .before .before .before .before .before .before .before .before .before .pre) (now (c .before .before .before .before .before .before .before .before .before .before .before .args .x)) (c .before .before .before .before .before .before .before .loop .k) (c .before .before .before .before .before .before .before .loop .at) (c .before .before .before .before .before .before .before .loop .sum) (c .before .before .before .before .before .before .before .loop .hit) (c .before .before .before .before .before .before .before .loop .inv) (c .before .before .before .before .before .before .loop-test .taken) _ (open-is (c .before .before .before .before .before .before .before .before .before .before .before .args .z) (now (c .before .before .before .before .before .before .before .before .before .before .before .args .chain)) (now (c .before .before .before .before .before .before .before .before .before .before .before .args .list)) (c .before .before .before .before .before .before .before .loop .k) _ _ _ (c .before .before .before .before .before .file-at .ensures) (c .before .before .before .before .«open» .ensures) (c .before .before .o .given .1)))
 
 noted-requires : tie.Need-noted-requires Inv-loop μ-loop
 noted-requires c κs =
-    look-fits (c .before .before .before .before .before .before .before .before .before .before .before .args .z) (now (c .before .before .before .before .before .before .before .before .before .before .before .args .chain)) (now (c .before .before .before .before .before .before .before .before .before .before .before .args .list)) (c .before .before .before .before .before .before .before .before .before .before .before .args .n) (c .before .before .before .before .before .before .before .before .before .before .before .pre) (now (c .before .before .before .before .before .before .before .before .before .before .before .args .x)) (c .before .before .before .before .before .before .before .loop .k) (c .before .before .before .before .before .before .before .loop .at) (c .before .before .before .before .before .before .before .loop .sum) (c .before .before .before .before .before .before .before .loop .hit) (c .before .before .before .before .before .before .before .loop .inv) (c .before .before .before .before .before .before .loop-test .taken) _ (open-is (c .before .before .before .before .before .before .before .before .before .before .before .args .z) (now (c .before .before .before .before .before .before .before .before .before .before .before .args .chain)) (now (c .before .before .before .before .before .before .before .before .before .before .before .args .list)) (c .before .before .before .before .before .before .before .loop .k) _ _ _ (c .before .before .before .before .before .file-at .ensures .0) (c .before .before .before .before .«open» .ensures) (c .before .before .o2 .given .1)) _ _ (c .lookup .ensures .0)
+    look-fits (c .before .before .before .before .before .before .before .before .before .before .args .z) (now (c .before .before .before .before .before .before .before .before .before .before .args .chain)) (now (c .before .before .before .before .before .before .before .before .before .before .args .list)) (c .before .before .before .before .before .before .before .before .before .before .args .n) (c .before .before .before .before .before .before .before .before .before .before .pre) (now (c .before .before .before .before .before .before .before .before .before .before .args .x)) (c .before .before .before .before .before .before .loop .k) (c .before .before .before .before .before .before .loop .at) (c .before .before .before .before .before .before .loop .sum) (c .before .before .before .before .before .before .loop .hit) (c .before .before .before .before .before .before .loop .inv) (c .before .before .before .before .before .loop-test .taken) _ (open-is (c .before .before .before .before .before .before .before .before .before .before .args .z) (now (c .before .before .before .before .before .before .before .before .before .before .args .chain)) (now (c .before .before .before .before .before .before .before .before .before .before .args .list)) (c .before .before .before .before .before .before .loop .k) _ _ _ (c .before .before .before .before .file-at .ensures) (c .before .before .before .«open» .ensures) (c .before .o2 .given .1)) _
 
 add-sum : tie.Need-add-sum Inv-loop μ-loop
-add-sum c = omega (arith, along-room (c .before .before .before .before .before .before .before .before .before .before .before .before .before .args .z) (now (c .before .before .before .before .before .before .before .before .before .before .before .before .before .args .chain)) (now (c .before .before .before .before .before .before .before .before .before .before .before .before .before .args .list)) (c .before .before .before .before .before .before .before .before .before .before .before .before .before .args .n) (c .before .before .before .before .before .before .before .before .before .before .before .before .before .pre) (c .before .before .before .before .before .before .before .before .before .loop .k) (c .before .before .before .before .before .before .before .before .before .loop .at) (c .before .before .before .before .before .before .before .before .before .loop .sum) (c .before .before .before .before .before .before .before .before .before .loop .inv .along) (c .before .before .before .before .before .before .before .before .loop-test .taken) _ (open-is (c .before .before .before .before .before .before .before .before .before .before .before .before .before .args .z) (now (c .before .before .before .before .before .before .before .before .before .before .before .before .before .args .chain)) (now (c .before .before .before .before .before .before .before .before .before .before .before .before .before .args .list)) (c .before .before .before .before .before .before .before .before .before .loop .k) _ _ _ (c .before .before .before .before .before .before .before .file-at .ensures .0) (c .before .before .before .before .before .before .«open» .ensures) (c .before .before .before .before .o2 .given .1)))
+add-sum c = omega (arith, along-room (c .before .before .before .before .before .before .before .before .before .before .before .before .args .z) (now (c .before .before .before .before .before .before .before .before .before .before .before .before .args .chain)) (now (c .before .before .before .before .before .before .before .before .before .before .before .before .args .list)) (c .before .before .before .before .before .before .before .before .before .before .before .before .args .n) (c .before .before .before .before .before .before .before .before .before .before .before .before .pre) (c .before .before .before .before .before .before .before .before .loop .k) (c .before .before .before .before .before .before .before .before .loop .at) (c .before .before .before .before .before .before .before .before .loop .sum) (c .before .before .before .before .before .before .before .before .loop .inv .along) (c .before .before .before .before .before .before .before .loop-test .taken) _ (open-is (c .before .before .before .before .before .before .before .before .before .before .before .before .args .z) (now (c .before .before .before .before .before .before .before .before .before .before .before .before .args .chain)) (now (c .before .before .before .before .before .before .before .before .before .before .before .before .args .list)) (c .before .before .before .before .before .before .before .before .loop .k) _ _ _ (c .before .before .before .before .before .before .file-at .ensures) (c .before .before .before .before .before .«open» .ensures) (c .before .before .before .o2 .given .1)))
 
 add-at : tie.Need-add-at Inv-loop μ-loop
-add-at c = omega (arith, along-room (c .before .before .before .before .before .before .before .before .before .before .before .before .before .args .z) (now (c .before .before .before .before .before .before .before .before .before .before .before .before .before .args .chain)) (now (c .before .before .before .before .before .before .before .before .before .before .before .before .before .args .list)) (c .before .before .before .before .before .before .before .before .before .before .before .before .before .args .n) (c .before .before .before .before .before .before .before .before .before .before .before .before .before .pre) (c .before .before .before .before .before .before .before .before .before .loop .k) (c .before .before .before .before .before .before .before .before .before .loop .at) (c .before .before .before .before .before .before .before .before .before .loop .sum) (c .before .before .before .before .before .before .before .before .before .loop .inv .along) (c .before .before .before .before .before .before .before .before .loop-test .taken) _ (open-is (c .before .before .before .before .before .before .before .before .before .before .before .before .before .args .z) (now (c .before .before .before .before .before .before .before .before .before .before .before .before .before .args .chain)) (now (c .before .before .before .before .before .before .before .before .before .before .before .before .before .args .list)) (c .before .before .before .before .before .before .before .before .before .loop .k) _ _ _ (c .before .before .before .before .before .before .before .file-at .ensures .0) (c .before .before .before .before .before .before .«open» .ensures) (c .before .before .before .before .o2 .given .1)), ap length (c .before .before .before .before .before .before .before .file-at .ensures .0))
+add-at c = omega (arith, along-room (c .before .before .before .before .before .before .before .before .before .before .before .before .args .z) (now (c .before .before .before .before .before .before .before .before .before .before .before .before .args .chain)) (now (c .before .before .before .before .before .before .before .before .before .before .before .before .args .list)) (c .before .before .before .before .before .before .before .before .before .before .before .before .args .n) (c .before .before .before .before .before .before .before .before .before .before .before .before .pre) (c .before .before .before .before .before .before .before .before .loop .k) (c .before .before .before .before .before .before .before .before .loop .at) (c .before .before .before .before .before .before .before .before .loop .sum) (c .before .before .before .before .before .before .before .before .loop .inv .along) (c .before .before .before .before .before .before .before .loop-test .taken) _ (open-is (c .before .before .before .before .before .before .before .before .before .before .before .before .args .z) (now (c .before .before .before .before .before .before .before .before .before .before .before .before .args .chain)) (now (c .before .before .before .before .before .before .before .before .before .before .before .before .args .list)) (c .before .before .before .before .before .before .before .before .loop .k) _ _ _ (c .before .before .before .before .before .before .file-at .ensures) (c .before .before .before .before .before .«open» .ensures) (c .before .before .before .o2 .given .1)), ap length (c .before .before .before .before .before .before .file-at .ensures))
 
 add-k : tie.Need-add-k Inv-loop μ-loop
-add-k c = omega (arith, c .before .before .before .before .before .before .before .before .loop-test .taken, c .before .before .before .before .before .before .before .before .before .before .before .before .before .pre .few)
+add-k c = omega (arith, c .before .before .before .before .before .before .before .loop-test .taken, c .before .before .before .before .before .before .before .before .before .before .before .before .pre .few)
 
 loop-less : tie.Need-loop-less Inv-loop μ-loop
-loop-less c = omega (arith, c .before .before .before .before .before .before .before .before .loop-test .taken)
+loop-less c = omega (arith, c .before .before .before .before .before .before .before .loop-test .taken)
 
 loop-again : tie.Need-loop-again Inv-loop μ-loop
 loop-again c =
-    rw (c .before .noted .ensures) (look-next (c .before .before .before .before .before .before .before .before .before .before .before .before .before .args .z) (now (c .before .before .before .before .before .before .before .before .before .before .before .before .before .args .chain)) (now (c .before .before .before .before .before .before .before .before .before .before .before .before .before .args .list)) (c .before .before .before .before .before .before .before .before .before .before .before .before .before .args .n) (c .before .before .before .before .before .before .before .before .before .before .before .before .before .pre) (now (c .before .before .before .before .before .before .before .before .before .before .before .before .before .args .x)) (c .before .before .before .before .before .before .before .before .before .loop .k) (c .before .before .before .before .before .before .before .before .before .loop .at) (c .before .before .before .before .before .before .before .before .before .loop .sum) (c .before .before .before .before .before .before .before .before .before .loop .hit) (c .before .before .before .before .before .before .before .before .before .loop .inv) (c .before .before .before .before .before .before .before .before .loop-test .taken) _ (open-is (c .before .before .before .before .before .before .before .before .before .before .before .before .before .args .z) (now (c .before .before .before .before .before .before .before .before .before .before .before .before .before .args .chain)) (now (c .before .before .before .before .before .before .before .before .before .before .before .before .before .args .list)) (c .before .before .before .before .before .before .before .before .before .loop .k) _ _ _ (c .before .before .before .before .before .before .before .file-at .ensures .0) (c .before .before .before .before .before .before .«open» .ensures) (c .before .before .before .before .o2 .given .1)) _ (c .before .before .before .before .before .before .before .file-at .ensures .0) _ (c .before .before .lookup .ensures .0))
+    rw (c .before .noted .ensures) (look-next (c .before .before .before .before .before .before .before .before .before .before .before .before .args .z) (now (c .before .before .before .before .before .before .before .before .before .before .before .before .args .chain)) (now (c .before .before .before .before .before .before .before .before .before .before .before .before .args .list)) (c .before .before .before .before .before .before .before .before .before .before .before .before .args .n) (c .before .before .before .before .before .before .before .before .before .before .before .before .pre) (now (c .before .before .before .before .before .before .before .before .before .before .before .before .args .x)) (c .before .before .before .before .before .before .before .before .loop .k) (c .before .before .before .before .before .before .before .before .loop .at) (c .before .before .before .before .before .before .before .before .loop .sum) (c .before .before .before .before .before .before .before .before .loop .hit) (c .before .before .before .before .before .before .before .before .loop .inv) (c .before .before .before .before .before .before .before .loop-test .taken) _ (open-is (c .before .before .before .before .before .before .before .before .before .before .before .before .args .z) (now (c .before .before .before .before .before .before .before .before .before .before .before .before .args .chain)) (now (c .before .before .before .before .before .before .before .before .before .before .before .before .args .list)) (c .before .before .before .before .before .before .before .before .loop .k) _ _ _ (c .before .before .before .before .before .before .file-at .ensures) (c .before .before .before .before .before .«open» .ensures) (c .before .before .before .o2 .given .1)) _ (c .before .before .before .before .before .before .file-at .ensures))
 
 returns-2 : tie.Need-returns-2 Inv-loop μ-loop
 returns-2 c = rw (c .at .ensures) (look-ends (c .before .before .before .before .before .before .args .z) (now (c .before .before .before .before .before .before .args .chain)) (now (c .before .before .before .before .before .before .args .list)) (c .before .before .before .before .before .before .args .n) (c .before .before .before .before .before .before .pre) (now (c .before .before .before .before .before .before .args .x)) _ _ _ _ (c .before .before .loop .inv) (c .before .loop-test .left))
@@ -62,7 +62,6 @@ look-spec =
     (λ c κs. search needs)
     returns
     (λ c. search needs)
-    (λ c κs. search needs)
     noted-requires
     add-sum
     add-at

@@ -1,21 +1,21 @@
 -- `graph::positions::id_at` meets its contract.
-use mathlib.Core.Path.{refl}
+use mathlib.Core.Path.{refl, sym, _∙_}
 use native.Mathlib.Omega.{arith}
 use denote.Ref.{now}
-use Rattle.graph.proofs.Spots.{id-none, id-part}
+use Rattle.graph.proofs.Reading.{id-none, id-part}
 use borrow.Author.Needs.{needs}
 use Rattle.graph.proofs.positions.id_at.Statement.{statement}
 use Rattle.graph.proofs.positions.id_at.Tie as tie
 
 returns : tie.Need-returns
-returns c = id-none 32 (c .before .before .before .before .before .before .before .before .args .chain) (now (c .before .before .before .before .before .before .before .before .args .list)) (c .before .before .before .before .before .before .before .before .args .pos .0) (c .before .before .before .before .before .locate .result .refusal) (c .before .before .before .before .before .locate .ensures .refusal) (c .before .if1 .taken) (record { block = refl; start = omega arith; bytes = refl })
-
-file-of-requires : tie.Need-file-of-requires
-file-of-requires c κs = (c .before .before .before .before .locate .ensures .listed (let h = c .if1 .left in omega arith), c .before .before .before .before .locate .ensures .holds (let h = c .if1 .left in omega arith))
+returns c =
+    let y = c .before .before .before .before .before .before in
+    id-none 32 (y .args .chain) (now (y .args .list)) (y .args .pos .0) _ (sym (c .before .before .before .locate .ensures) ∙ c .before .enum-told .given .1) (record { block = refl; start = omega arith; bytes = refl })
 
 returns-2 : tie.Need-returns-2
 returns-2 c =
-    id-part 32 (c .before .before .before .before .before .before .before .before .before .before .args .chain) (now (c .before .before .before .before .before .before .before .before .before .before .args .list)) (c .before .before .before .before .before .before .before .before .before .before .args .pos .0) (c .before .before .before .before .before .before .before .locate .result .refusal) (c .before .before .before .before .before .before .before .locate .ensures .refusal) (c .before .before .before .if1 .left) (c .before .before .before .before .before .before .before .locate .result .spot) (c .before .before .before .before .before .before .before .locate .ensures .holds (let h = c .before .before .before .if1 .left in omega arith)) (c .before .before .before .before .before .before .before .locate .ensures .listed (let h = c .before .before .before .if1 .left in omega arith)) (c .before .before .file-of .ensures) (c .id-at .ensures)
+    let y = c .before .before .before .before .before .before .before .before .before .before in
+    id-part 32 (y .args .chain) (now (y .args .list)) (y .args .pos .0) _ (sym (c .before .before .before .before .before .before .before .locate .ensures) ∙ c .before .before .before .before .before .spot .given .1) (c .before .before .before .part .ensures) (c .id-at .ensures)
 
 pub id-at-spec : {M : Type 1} → statement M
 id-at-spec =
@@ -25,7 +25,9 @@ id-at-spec =
     (λ c. search needs)
     (λ c. search needs)
     (λ c. search needs)
-    returns
-    file-of-requires
+    (λ c. search needs)
+    (λ c. search needs)
     (λ c κs. search needs)
+    (λ c κs. search needs)
+    returns
     returns-2)

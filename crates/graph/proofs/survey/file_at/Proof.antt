@@ -18,8 +18,7 @@ returns c =
     let a = y .args in
     let m = c .before .length-at .ensures in
     let h : a .at + c .before .length-at .result * 1 ≤ length (a .chain .now) = omega (arith, file-room (a .z) (a .chain .now) (a .list .now) (a .n) (y .pre .0) (a .k) (y .pre .1 .0), y .pre .1 .1) in
-    let p = records-in (a .chain) (c .part .result) _ _ 1 h (c .part .ensures) in
-    (p .bytes ∙ rw (mul-one, m, y .pre .1 .1), rw (mul-one, m) at p)
+    records-in (a .chain) (c .part .result) _ _ 1 h (c .part .ensures) .bytes ∙ rw (mul-one, m, y .pre .1 .1)
 
 pub file-at-spec : {M : Type 1} → statement M
 file-at-spec = tie.close (tie.spec

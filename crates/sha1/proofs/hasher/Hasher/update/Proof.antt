@@ -4,9 +4,9 @@ use mathlib.Core.Path.{_≡_, sym, ap, _∙_}
 use mathlib.Core.List.{List, _++_}
 use native.Mathlib.Omega.{arith}
 use lib.ListN.{length, take, drop, length-append, length-take}
-use Rattle.sha1.specs.Message.{afterAll}
+use Rattle.block.specs.Message.{afterAll}
+use Rattle.block.specs.Fips.{compress}
 use Rattle.sha1.specs.Feed.{rest, padded, opened, nextBlock, nextWords, nextCount}
-use Rattle.sha1.specs.Fips.{compress}
 use Rattle.sha1.specs.State.{updated}
 use Rattle.sha1.proofs.Blocks.{tail, small, small-rest, fills-up, rest-fills}
 use Rattle.sha1.proofs.Laws.{same}

@@ -1,0 +1,16 @@
+-- `rules::digest` meets its contract.
+use native.Mathlib.Omega.{arith}
+use lib.ListN.{length-take}
+use borrow.Author.Needs.{needs}
+use Rattle.rules.proofs.digest.Statement.{statement}
+use Rattle.rules.proofs.digest.Tie as tie
+
+slice-aggregate-sha1 : tie.Need-slice-aggregate-sha1
+slice-aggregate-sha1 c = simp length-take (omega arith)
+
+pub digest-spec : {M : Type 1} → statement M
+digest-spec = tie.close (tie.spec
+    (λ c. search needs)
+    slice-aggregate-sha1
+    (λ c κs. search needs)
+    (λ c. search needs))

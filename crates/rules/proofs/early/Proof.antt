@@ -1,0 +1,25 @@
+-- `rules::early` meets its contract.
+use mathlib.Core.Path.{sym, ap, _∙_}
+use native.Mathlib.Omega.{arith}
+use lib.Dec.{ltb}
+use denote.Ref.{now}
+use borrow.Author.Tests.{le-ltb}
+use Rattle.access.specs.Lookup.{lower}
+use Rattle.access.proofs.Halving.{lower-zero, lower-is}
+use borrow.Author.Needs.{needs}
+use Rattle.rules.proofs.early.Statement.{statement}
+use Rattle.rules.proofs.early.Tie as tie
+
+returns : tie.Need-returns
+returns c = sym (le-ltb (c .before .before .args .c) (lower (now (c .before .before .args .fan)) (c .before .before .args .b)) (omega (arith, lower-zero (now (c .before .before .args .fan)) (c .before .before .args .b) (c .if1 .taken))))
+
+returns-2 : tie.Need-returns-2
+returns-2 c = ap (ltb _) (c .be32 .ensures ∙ lower-is _ _ (c .before .if1 .left))
+
+pub early-spec : {M : Type 1} → statement M
+early-spec = tie.close (tie.spec
+    returns
+    (λ c. search needs)
+    (λ c. search needs)
+    (λ c κs. search needs)
+    returns-2)

@@ -1,0 +1,16 @@
+-- `rules::other` meets its contract.
+use mathlib.Core.Bool.{not}
+use mathlib.Core.Path.{ap}
+use Rattle.rules.proofs.Trailers.{name-said}
+use borrow.Author.Needs.{needs}
+use Rattle.rules.proofs.other.Statement.{statement}
+use Rattle.rules.proofs.other.Tie as tie
+
+returns : tie.Need-returns
+returns c = ap not (name-said _ _ _ _ _ _ (c .before .before .before .before .pre .0) (c .before .before .before .before .pre .1) (c .before .trailer .ensures) (c .claims .ensures))
+
+pub other-spec : {M : Type 1} → statement M
+other-spec = tie.close (tie.spec
+    (λ c κs. search needs)
+    (λ c κs. search needs)
+    returns)

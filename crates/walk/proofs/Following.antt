@@ -1,0 +1,174 @@
+-- What a step does to a walk, and that the steps followed to the end are the parent list.
+use Prim.Native.Nat.{ℕ, _≤_, _<_}
+use mathlib.Core.List.{List, [], _∷_}
+use mathlib.Core.Bool.{Bool, true, false, not}
+use mathlib.Core.Path.{_≡_, refl, sym, ap, subst, _∙_}
+use mathlib.Core.Logic.{⊎-elim}
+use native.Mathlib.Omega.{arith}
+use lib.Dec.{ltb}
+use borrow.Author.Tests.{le-ltb, ltb-true}
+use Rattle.types.specs.declared.refusal.Refusal.{Refusal}
+use Rattle.words.proofs.Numbers.{le-or-lt}
+use Rattle.chunk.specs.Index.{absent}
+use Rattle.file.specs.Fits.{askRule, edgePart}
+use Rattle.file.specs.declared.File.{File}
+use Rattle.file.specs.declared.Opening.{Opening}
+use Rattle.file.specs.declared.Opening.the-variants.{Open, Refused}
+use Rattle.file.proofs.Opens.{opened as file-opened, refused-named}
+use Rattle.file.proofs.Fitting.{opened-fits, asked-plain}
+use Rattle.commit.specs.Commits.{rowOf}
+use Rattle.parents.specs.Walks.{nextOf, Walked, ends as over, parent, restOf, walkOf, positions, endOf, answerOf}
+use Rattle.parents.specs.declared.Answer.{Answer}
+use Rattle.parents.specs.declared.Answer.the-variants.{Parent, Refused as Not, End}
+use Rattle.parents.specs.declared.Met.{Met}
+use Rattle.parents.specs.declared.Met.the-variants.{Parent as Meets, Refused as MeetsNo, End as MeetsEnd}
+use Rattle.parents.specs.declared.Next.{Next}
+use Rattle.parents.specs.declared.Phase.{Phase}
+use Rattle.parents.specs.declared.Phase.the-variants.{First}
+use Rattle.parents.proofs.Walking.{followMet, rest-follow, step-plain, Told, step-told}
+use Rattle.graph.specs.Chain.{commitsOf, partAt, openAt, countAt, fileOf, posOf, asked}
+use Rattle.walk.specs.Lists.{walkIn, walkedAt}
+use Rattle.walk.specs.Walks.{answerIn, refused, stepBy, pickStep, stepOf}
+use Rattle.walk.specs.Theorems.{Keeps, Follows, ends, stops, goes, Ends, restAt, walkAt, Lists}
+use Rattle.walk.specs.declared.Walk.{Walk}
+use Rattle.walk.specs.declared.Step.{Step}
+use Rattle.graph.proofs.Standing.{stands, asked-below}
+use Rattle.walk.proofs.Steps.{step-refused}
+
+-- ── one step ──
+
+answer-told : (k : ℕ) (a : Answer) (s : Phase) → Told a s → Told (answerIn k a) s
+unfolding Told answerIn
+answer-told k (Parent p) s h = h
+answer-told k (Not r) s h = h
+answer-told k End s h = h
+
+module _ (z : ℕ) (c l : List ℕ) where
+  -- what holds of both ways through a step
+  step-ways : (w : Walk) (P : Step → Type 0)
+      → ((r : Refusal) → 0 < r .number → P (refused w r))
+      → ((k i : ℕ) (f : File) → P (stepBy k (partAt z c l k) (Open f) i w))
+      → P (stepOf z c l w)
+  unfolding stepOf pickStep stepBy openAt
+  step-ways w P halts runs = go (ltb 0 (asked z c l (w .commit .0) .number)) refl
+    where
+      k : ℕ
+      k = fileOf z c l (w .commit .0)
+
+      in-file : (o : Opening) → openAt z c l k ≡ o → P (stepBy k (partAt z c l k) o (posOf z c l (w .commit .0)) w)
+      in-file (Open f) e = runs k (posOf z c l (w .commit .0)) f
+      in-file (Refused r) e = halts r (refused-named true (partAt z c l k) r e)
+
+      go : (t : Bool) → ltb 0 (asked z c l (w .commit .0) .number) ≡ t
+          → P (pickStep t (refused w (asked z c l (w .commit .0))) (stepBy k (partAt z c l k) (openAt z c l k) (posOf z c l (w .commit .0)) w))
+      go true e = halts (asked z c l (w .commit .0)) (ltb-true 0 (asked z c l (w .commit .0) .number) e)
+      go false e = in-file (openAt z c l k) refl
+
+  told : (w : Walk) → Told (stepOf z c l w .answer) (stepOf z c l w .next .phase)
+  unfolding Told stepBy
+  told w =
+      step-ways w (λ (x : Step). Told (x .answer) (x .next .phase))
+      (λ r h. (h, refl))
+      (λ k i f. answer-told k _ _ (step-told (partAt z c l k) f i (w .phase)))
+
+  pub keeps : (w : Walk) → Keeps z c l w
+  unfolding Told stepBy
+  keeps w =
+      record {
+        commit = step-ways w (λ (x : Step). x .next .commit ≡ w .commit) (λ r h. refl) (λ k i f. refl);
+        ended = λ e. at End e;
+        refused = λ r e. at (Not r) e .1;
+        named = λ r e. at (Not r) e .0;
+      }
+    where
+      at : (a : Answer) → stepOf z c l w .answer ≡ a → Told a (stepOf z c l w .next .phase)
+      at a e = subst (λ (y : Answer). Told y (stepOf z c l w .next .phase)) e (told w)
+
+  -- ── the steps followed ──
+
+  -- two followings of one walk are the same
+  pub follows-same : {w : Walk} {ps qs : List ℕ} {e d : ℕ} → Follows z c l w ps e → Follows z c l w qs d → (ps ≡ qs) × (e ≡ d)
+  follows-same (ends a) (ends b) = (refl, refl)
+  follows-same (ends a) (stops b) = let y : _≡_ {A = ℕ} 0 1 = cc in absurd (omega arith)
+  follows-same (ends a) (goes b y) = let y : _≡_ {A = ℕ} 0 1 = cc in absurd (omega arith)
+  follows-same (stops a) (ends b) = let y : _≡_ {A = ℕ} 0 1 = cc in absurd (omega arith)
+  follows-same (stops a) (stops b) = (refl, cc)
+  follows-same (stops a) (goes b y) = let y : _≡_ {A = ℕ} 0 1 = cc in absurd (omega arith)
+  follows-same (goes a x) (ends b) = let y : _≡_ {A = ℕ} 0 1 = cc in absurd (omega arith)
+  follows-same (goes a x) (stops b) = let y : _≡_ {A = ℕ} 0 1 = cc in absurd (omega arith)
+  follows-same (goes a x) (goes b y) = let h = follows-same x y in (cc, h .1)
+
+  module _ (g : ℕ) (a : asked z c l g .number ≡ 0) (f : File) (o : openAt z c l (fileOf z c l g) ≡ Open f) where
+    below : posOf z c l g < f .commits
+    unfolding countAt commitsOf
+    below = rw o at (stands z c l .pos g (asked-below z c l g a))
+
+    plain : askRule (partAt z c l (fileOf z c l g)) f (f .commits) (posOf z c l g) ≡ 0
+    unfolding openAt
+    plain =
+        asked-plain (partAt z c l (fileOf z c l g)) f (f .commits) (posOf z c l g)
+        (opened-fits (partAt z c l (fileOf z c l g)) f (file-opened true (partAt z c l (fileOf z c l g)) f o)) below
+
+    next : Phase → Next
+    next s =
+        nextOf (rowOf (partAt z c l (fileOf z c l g)) f (posOf z c l g) .first) (rowOf (partAt z c l (fileOf z c l g)) f (posOf z c l g) .second)
+        (not (absent (f .edge))) (edgePart (partAt z c l (fileOf z c l g)) f) s
+
+    left : Phase → Walked
+    left s = restAt (partAt z c l (fileOf z c l g)) f (posOf z c l g) s
+
+    step-is : (s : Phase) → stepOf z c l (walkAt g s)
+        ≡ (record { answer = answerIn (fileOf z c l g) (answerOf (posOf z c l g) (next s .met)); next = walkAt g (next s .phase) })
+    unfolding stepOf pickStep stepBy next
+    step-is s =
+        rw (
+          le-ltb 0 (asked z c l g .number) (omega arith),
+          o,
+          ← step-plain (partAt z c l (fileOf z c l g)) f (posOf z c l g) s plain,
+        )
+
+    answer-is : (s : Phase) (m : Met) → next s .met ≡ m → stepOf z c l (walkAt g s) .answer ≡ answerIn (fileOf z c l g) (answerOf (posOf z c l g) m)
+    answer-is s m e = ap (λ (x : Step). x .answer) (step-is s) ∙ ap (λ (y : Met). answerIn (fileOf z c l g) (answerOf (posOf z c l g) y)) e
+
+    -- a step that meets no parent, and one that meets one
+    last : (r : ℕ) (s : Phase) (m : Met) → next s .met ≡ m → over r ≡ followMet m (left (next s .phase)) → Follows z c l (walkAt g s) [] r
+    unfolding followMet answerIn answerOf
+    last r s (Meets q) e d = let y : _≡_ {A = ℕ} 0 1 = cc in absurd (omega arith)
+    last r s (MeetsNo n) e d = let y : r ≡ n = cc in rw y (stops (answer-is s (MeetsNo n) e))
+    last r s MeetsEnd e d = let y : r ≡ 0 = cc in rw y (ends (answer-is s MeetsEnd e))
+
+    more : (p : ℕ) (w : Walked) (s : Phase) (m : Met) → next s .met ≡ m → parent p w ≡ followMet m (left (next s .phase))
+        → ((t : Phase) → left t ≡ w → Follows z c l (walkAt g t) (positions w) (endOf w)) → Follows z c l (walkAt g s) (p ∷ positions w) (endOf w)
+    unfolding followMet answerIn answerOf
+    more p w s (Meets q) e d rest =
+        let y : p ≡ q .position .0 = cc in
+        let v : left (next s .phase) ≡ w = cc in
+        rw y (goes (answer-is s (Meets q) e) (subst (λ (x : Step). Follows z c l (x .next) (positions w) (endOf w)) (sym (step-is s)) (rest (next s .phase) v)))
+    more p w s (MeetsNo n) e d rest = let y : _≡_ {A = ℕ} 0 1 = cc in absurd (omega arith)
+    more p w s MeetsEnd e d rest = let y : _≡_ {A = ℕ} 0 1 = cc in absurd (omega arith)
+
+    left-follow : (s : Phase) → left s ≡ followMet (next s .met) (left (next s .phase))
+    unfolding next left
+    left-follow s = rest-follow _ _ _ _ s
+
+    along : (w : Walked) (s : Phase) → left s ≡ w → Follows z c l (walkAt g s) (positions w) (endOf w)
+    unfolding positions endOf
+    along (over r) s e = last r s (next s .met) refl (sym e ∙ left-follow s)
+    along (parent p w) s e = more p w s (next s .met) refl (sym e ∙ left-follow s) (along w)
+
+    pub lists : Lists z c l g f
+    unfolding left walkOf restOf walkedAt walkIn
+    lists = record { rest = λ s. along (left s) s refl; whole = rw o (along (left First) First refl) }
+
+  pub ends-once : (w : Walk) → Ends z c l w
+  ends-once w =
+      ⊎-elim
+      (λ (h : asked z c l (w .commit .0) .number ≤ 0).
+      let a : asked z c l (w .commit .0) .number ≡ 0 = omega arith in
+      let o = stands z c l .opens (w .commit .0) (asked-below z c l (w .commit .0) a) in
+      let y = lists (w .commit .0) a (o .0) (o .1) .rest (w .phase) in
+      record { parents = _; last = _; follows = y; only = λ ps e x. follows-same x y })
+      (λ (h : 0 < asked z c l (w .commit .0) .number).
+      let y : Follows z c l w [] (asked z c l (w .commit .0) .number) = stops (ap (λ (x : Step). x .answer) (sym (step-refused z c l w _ refl h))) in
+      record { parents = _; last = _; follows = y; only = λ ps e x. follows-same x y })
+      (le-or-lt (asked z c l (w .commit .0) .number) 0)

@@ -1,0 +1,43 @@
+-- The parent step on a chain: the opening, then 40, then the state; 50 to 54 carry the commit's file and its position there.
+use Prim.Native.Nat.{ℕ}
+use mathlib.Core.List.{List}
+use mathlib.Core.Bool.{Bool, true, false}
+use lib.Dec.{ltb}
+use Rattle.types.specs.declared.refusal.Refusal.{Refusal}
+use Rattle.file.specs.declared.Opening.{Opening}
+use Rattle.file.specs.declared.Opening.the-variants.{Open, Refused}
+use Rattle.parents.specs.Walks.{stepOf as fileStep}
+use Rattle.parents.specs.declared.Step.{Step as FileStep}
+use Rattle.parents.specs.declared.Answer.{Answer}
+use Rattle.parents.specs.declared.Answer.the-variants.{Parent, Refused as Not, End}
+use Rattle.parents.specs.declared.Phase.{Phase}
+use Rattle.parents.specs.declared.Phase.the-variants.{Exhausted}
+use Rattle.graph.specs.Chain.{placed, partAt, openAt, fileOf, posOf, asked}
+use Rattle.walk.specs.declared.Walk.{Walk}
+use Rattle.walk.specs.declared.Step.{Step}
+
+unfoldable pub answerIn : ℕ → Answer → Answer
+answerIn k (Parent p) = Parent p
+answerIn k (Not r) = Not (placed k r)
+answerIn k End = End
+
+-- a refusal keeps the walk's position and leaves it exhausted
+abbrev pub refused : Walk → Refusal → Step
+refused w r = record { answer = Not r; next = record { commit = w .commit; phase = Exhausted } }
+
+abbrev pub stepIn : ℕ → Walk → FileStep → Step
+stepIn k w s = record { answer = answerIn k (s .answer); next = record { commit = w .commit; phase = s .next } }
+
+unfoldable pub stepBy : ℕ → List ℕ → Opening → ℕ → Walk → Step
+stepBy k p (Open f) i w = stepIn k w (fileStep p f i (w .phase))
+stepBy k p (Refused r) i w = refused w r
+
+unfoldable pub pickStep : Bool → Step → Step → Step
+pickStep true a b = a
+pickStep false a b = b
+
+unfoldable pub stepOf : ℕ → List ℕ → List ℕ → Walk → Step
+stepOf z c l w =
+    pickStep (ltb 0 (asked z c l (w .commit .0) .number)) (refused w (asked z c l (w .commit .0)))
+    (stepBy (fileOf z c l (w .commit .0)) (partAt z c l (fileOf z c l (w .commit .0))) (openAt z c l (fileOf z c l (w .commit .0)))
+    (posOf z c l (w .commit .0)) w)
