@@ -9,6 +9,7 @@ those of the refusals."""
 import hashlib
 from dataclasses import dataclass, field, replace
 
+import compared
 from chains import EIGHT, EMPTY, THREE, TWO, Chain, Row, Stored, by_git, parent_words, plain, record, records, refusal
 from made import EDGE, LAST, NONE, ZERO, ask, be, fan, file, folder, noise, offsets, with_words, without, write
 
@@ -946,13 +947,50 @@ def single_bytes():
     refused([turned(one, len(one) - 5), two], 62)
 
 
+# The rows of docs/DIFFERENCES.md that an input of the program can show, each by its smallest one.
+
+
+def differences():
+    empty, none = EMPTY.data(), file({b"OIDF": bytes(1024), b"OIDL": b"", b"CDAT": b""})
+    assert empty == none and len(none) == 1100
+    own = history([[0]])
+    accepted(own)  # rows 1, 9a and 9c: most parents, counts of 0, no length
+    refused([none], 63, named=record(1100, 2))  # row 2: the kind of a name such as graph-\xff.graph
+    refused([file({**EMPTY.parts(), b"OIDF": be(4, 1) + bytes(1020)})], 20, 0, 1)  # row 3
+    low = history([[]], ids=[b"\1" + bytes(19)])
+    refused([file({**low.stored[0].parts(), b"OIDF": be(4, 1) * 256})], 66)  # row 4, and row 9b: no counts follow
+    refused(sealed(own.with_file(0, edge=b"\0").but(0, 0, second=EDGE)), 54)  # row 5
+    refused([], 30, named=record(0) * 257)  # row 7: 257 records
+    more = history([[0] * 65])
+    accepted(more)  # row 9
+    for named, number in (b"", 30), (record(0, 3), 31), (record(1), 32):
+        refused([], number, named=named)  # row 10
+    refused([file(EMPTY.parts(), head=b"CGPH\1\2")], 5)  # row 11
+    refused([file(EMPTY.parts(), count=0)], 7, 0, 0)  # row 12: C = 0, and the last id is not 0
+    refused([file(EMPTY.parts(), at={0: 55})], 9, 0, 0)  # row 12: an offset inside the index
+    accepted(Chain(EMPTY), [file({b"XTRA": b"", **EMPTY.parts()})])  # row 12: equal offsets
+
+
+def sampled():
+    """A sample of what the Rust crate answers, as the comparison stored it. The rules must say the same."""
+    records, lines = compared.stored()
+    wanted, at = [], 0
+    while at < len(records):
+        size = number(records, at + 1)
+        data = records[at + 5 : at + 5 + size]
+        at += 5 + size
+        wanted += printed(data)
+        ask(b"v", data, *printed(data))
+    assert wanted == lines.decode().splitlines()
+
+
 def main():
     place = folder(__doc__)
     for cases in by_git_accepted, few_commits, shapes, circles, octopuses, lengths, unusual, again, names, unreadable, lists:
         cases()
     for cases in opened, opened_in_order, base_counts, base_ids, trailers, file_order:
         cases()
-    for cases in ids, buckets, swapped, trees, walks, limits, generations, at_the_cap, commit_order, single_bytes:
+    for cases in ids, buckets, swapped, trees, walks, limits, generations, at_the_cap, commit_order, single_bytes, differences, sampled:
         cases()
     write(place)
 

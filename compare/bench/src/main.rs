@@ -5,6 +5,9 @@ mod read;
 mod table;
 mod tasks;
 
+#[path = "../../driver/src/answers.rs"]
+#[allow(dead_code)]
+mod answers;
 #[path = "../../driver/src/plant.rs"]
 #[allow(dead_code)]
 mod plant;

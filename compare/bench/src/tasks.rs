@@ -51,7 +51,7 @@ pub fn traversal(table: &mut Table, chain: &Chain) {
     let (map, path) = chain.maps().remove(0);
     let file = File::new(map, path).expect("a sound file");
     let original = || {
-        let outcome = file.traverse(|_| Ok::<_, Infallible>(())).expect("a sound file");
+        let outcome = file.traverse(|_| Ok(())).expect("a sound file");
         (outcome.num_commits, outcome.max_generation, outcome.min_generation)
     };
     let traversed = || {

@@ -1,12 +1,12 @@
 // The walk over a commit's parents in a chain: a step that takes the walk and hands it back, and one that changes it in place.
 pub mod listing;
 
-use parents::Answer;
-use parents::Phase;
-use parents::step_at;
 use graph::locate::Located;
 use graph::locate::locate;
 use graph::locate::of_file;
+use parents::Answer;
+use parents::Phase;
+use parents::step_at;
 use types::graph::Position;
 use words::part::part;
 ghost use mathlib.Core.Path.{_≡_};

@@ -1,9 +1,9 @@
 // The parent list in a chain: a commit's parents written into a lent list.
-use parents::listing;
-use parents::Total;
 use graph::locate::Located;
 use graph::locate::locate;
 use graph::locate::of_file;
+use parents::Total;
+use parents::listing;
 use types::graph::Position;
 use words::part::part;
 ghost use mathlib.Core.Path.{_≡_};

@@ -1,0 +1,3 @@
+pub mod Backs
+pub mod Placing
+pub mod Spotting

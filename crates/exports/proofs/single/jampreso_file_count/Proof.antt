@@ -1,0 +1,17 @@
+-- `exports::single::jampreso_file_count` meets its contract.
+use mathlib.Core.Path.{ap, _∙_}
+use Rattle.exports.specs.Images.{flatTotal}
+use borrow.Author.Needs.{needs}
+use Rattle.exports.proofs.single.jampreso_file_count.Statement.{statement}
+use Rattle.exports.proofs.single.jampreso_file_count.Tie as tie
+
+returns : tie.Need-returns
+returns c = rw (← c .before .before .file-of .ensures) (c .total-flat .ensures ∙ ap flatTotal (c .before .count-at .ensures))
+
+pub jampreso-file-count-spec : {M : Type 1} → statement M
+jampreso-file-count-spec =
+    tie.close (tie.spec
+    (λ c κs. search needs)
+    (λ c κs. search needs)
+    (λ c κs. search needs)
+    returns)

@@ -1,0 +1,13 @@
+-- `exports::single::jampreso_file_tree` meets its contract.
+use borrow.Author.Needs.{needs}
+use Rattle.exports.proofs.single.jampreso_file_tree.Statement.{statement}
+use Rattle.exports.proofs.single.jampreso_file_tree.Tie as tie
+
+returns : tie.Need-returns
+returns c = rw (← c .before .file-of .ensures) (c .row-at .ensures)
+
+pub jampreso-file-tree-spec : {M : Type 1} → statement M
+jampreso-file-tree-spec = tie.close (tie.spec
+    (λ c κs. search needs)
+    (λ c κs. search needs)
+    returns)

@@ -1,0 +1,14 @@
+-- `exports::single::jampreso_name` meets its contract.
+use mathlib.Core.Path.{ap}
+use Rattle.exports.specs.Images.{flatName}
+use borrow.Author.Needs.{needs}
+use Rattle.exports.proofs.single.jampreso_name.Statement.{statement}
+use Rattle.exports.proofs.single.jampreso_name.Tie as tie
+
+returns : tie.Need-returns
+returns c = ap flatName (c .before .read .ensures)
+
+pub jampreso-name-spec : {M : Type 1} → statement M
+jampreso-name-spec = tie.close (tie.spec
+    (λ c κs. search needs)
+    returns)

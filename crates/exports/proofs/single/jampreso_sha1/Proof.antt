@@ -1,0 +1,14 @@
+-- `exports::single::jampreso_sha1` meets its contract.
+use mathlib.Core.Path.{ap}
+use Rattle.exports.specs.Images.{flatDigest}
+use borrow.Author.Needs.{needs}
+use Rattle.exports.proofs.single.jampreso_sha1.Statement.{statement}
+use Rattle.exports.proofs.single.jampreso_sha1.Tie as tie
+
+returns : tie.Need-returns
+returns c = ap flatDigest (c .sha1 .ensures)
+
+pub jampreso-sha1-spec : {M : Type 1} → statement M
+jampreso-sha1-spec = tie.close (tie.spec
+    (λ c κs. search needs)
+    returns)

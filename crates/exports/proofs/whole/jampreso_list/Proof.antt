@@ -1,0 +1,16 @@
+-- `exports::whole::jampreso_list` meets its contract.
+use mathlib.Core.Path.{ap, _∙_}
+use Rattle.exports.specs.Images.{flatTotal}
+use borrow.Author.Needs.{needs}
+use Rattle.exports.proofs.whole.jampreso_list.Statement.{statement}
+use Rattle.exports.proofs.whole.jampreso_list.Tie as tie
+
+returns : tie.Need-returns
+returns c = (c .total-flat .ensures ∙ ap flatTotal (c .before .before .before .list-at .ensures .0), c .before .before .before .list-at .ensures .1)
+
+pub jampreso-list-spec : {M : Type 1} → statement M
+jampreso-list-spec = tie.close (tie.spec
+    (λ c κs. search needs)
+    (λ c κs. search needs)
+    (λ c. search needs)
+    returns)
