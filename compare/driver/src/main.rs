@@ -1,4 +1,5 @@
-//! Runs the Rust crate beside the port and compares every answer: `compare short|long|plant|sample`, `compare SEED N`, or `compare fuzz SECONDS SEED`.
+//! Runs the Rust crate beside the port and compares every answer: `compare short|long|plant|sample`, `compare SEED N`,
+//! `compare fuzz SECONDS SEED`, or `compare peers N [SEED]`.
 
 mod answers;
 mod ask;
@@ -10,6 +11,7 @@ mod judge;
 mod layout;
 mod list;
 mod original;
+mod peers;
 mod plan;
 mod plant;
 mod port;
@@ -75,11 +77,13 @@ fn main() -> ExitCode {
             fuzz::run(*seconds, *seed);
             true
         }
+        (["peers", ..], [count]) => peers::run(*count, 1, &folder),
+        (["peers", ..], [count, seed]) => peers::run(*count, *seed, &folder),
         (["outside"], _) => fuzz::outside(),
         (["sample"], _) => sample::write(&folder),
         (_, [seed, count]) => compare(&Plan::random(*seed, *count as usize), &folder),
         _ => {
-            println!("compare short|long|plant|sample, compare SEED N, or compare fuzz SECONDS SEED");
+            println!("compare short|long|plant|sample, compare SEED N, compare fuzz SECONDS SEED, or compare peers N [SEED]");
             return ExitCode::from(2);
         }
     };

@@ -100,7 +100,7 @@ impl Plan {
             edges::all().iter().for_each(|input| ask::input(t, s, input));
         }
         if self.gibibyte {
-            [list::MOST, list::MOST + 1].iter().for_each(|size| ask::large(t, *size));
+            [list::MOST, list::MOST + 1].iter().for_each(|size| ask::large(t, s, *size));
         }
     }
 

@@ -1,12 +1,13 @@
 -- Where a part lies: what a question's rule says of the numbers that cross, and that they name the part which the library hands out.
 use Prim.Native.Nat.{ℕ, zero, suc, _+_, _*_, _≤_, _<_}
 use mathlib.Core.List.{List}
+use mathlib.Core.Bool.{Bool, true, false}
 use mathlib.Core.Path.{_≡_, refl, sym, ap, _∙_}
 use native.Mathlib.Omega.{arith}
 use lib.ListN.{length}
 use denote.Ref.{RefT}
 use lib.Dec.{ltb}
-use borrow.Author.Tests.{ne-eqb, lt-ltb, le-ltb}
+use borrow.Author.Tests.{eq-eqb, ne-eqb, lt-ltb, le-ltb, ltb-true, ltb-false}
 use Rattle.words.specs.First.{_if_else_}
 use Rattle.words.specs.Part.{PartOf}
 use Rattle.types.specs.Refusals.{refusal}
@@ -53,3 +54,12 @@ module _ (m a : Refusal) (at size : ℕ) (e : m ≡ a) {x : Part} where
   pub part-open : x ≡ flatPart Fine at size → m .number ≤ 0 → x ≡ flatPart (askingBy a) at size
   unfolding askingBy pickAsking
   part-open p h = p ∙ rw (← e, le-ltb 0 (m .number) h)
+
+-- and so on a chain, whose questions answer the refusal whole
+pub names-by : (s : RefT (List ℕ)) (a : Refusal) (at size : ℕ) → Names s (a .number) at size (flatPart (askingBy a) at size)
+unfolding askingBy pickAsking _if_else_
+names-by s a at size q p = go (ltb 0 (a .number)) refl
+  where
+    go : (t : Bool) → ltb 0 (a .number) ≡ t → PartOf s (flatPart (pickAsking t (Met a) Fine) at size .at) (flatPart (pickAsking t (Met a) Fine) at size .size) q
+    go true d = rw (ne-eqb (a .number) 0 (λ e. omega (arith, ltb-true 0 (a .number) d))) at p
+    go false d = rw (eq-eqb (a .number) 0 (omega (arith, ltb-false 0 (a .number) d))) at p

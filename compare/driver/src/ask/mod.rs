@@ -21,7 +21,7 @@ use crate::{
     port,
     rows::Row,
     seeded::Seeded,
-    shapes::Opening,
+    shapes::{Opened, Opening},
     tally::Tally,
 };
 use std::ops::Range;
@@ -115,19 +115,27 @@ fn files(t: &mut Tally, seeded: &mut Seeded, input: &Input, records: &[list::Rec
     Chain::new(originals).map_err(|stop| judge::number(t, stop))
 }
 
-/// The opening alone of a file that is too large to read. Over 1 GiB the crate opens what document 01 refuses (row 8).
-pub fn large(t: &mut Tally, size: usize) {
-    let (input, held) = (edges::large(size), edges::large(size).chain);
+/// Every question on one file of the largest size, without commits, and on a byte more. Over 1 GiB the crate opens what document 01 refuses (row 8).
+pub fn large(t: &mut Tally, seeded: &mut Seeded, size: usize) {
+    let input = edges::large(size);
+    let lent = (&input.chain[..], &input.list[..]);
     t.begin(&Input { kind: input.kind, ..Input::default() });
-    let said = open_held(held, "commit-graph".as_ref()).map(|file| file.commits());
-    let said = judge::opened(t, &input.chain, said);
-    let expected = match list::records(size, &input.list) {
+    let said = open_held(input.chain.clone(), "commit-graph".as_ref());
+    let said = judge::opened(t, lent.0, said);
+    match list::records(size, lent.1) {
         Err(refusal) => {
             assert!(said.is_ok(), "the crate has no such limit");
             t.row(Row::Size);
-            Err(refusal)
+            t.held("file open", size, Opened::of(Err(refusal)), port::file_open(lent.0));
+            t.held("open", size, Opening::of(Err(refusal)), port::open(lent));
+            refused::everywhere(t, seeded, lent, refusal);
+            verify::alone(t, lent);
         }
-        Ok(_) => said,
-    };
-    t.held("open", size, Opening::of(expected), port::open((&input.chain, &input.list)));
+        Ok(records) => {
+            verify::traversal(t, lent.0, &records[0], &said);
+            let chain = said.and_then(|file| Chain::new(vec![file]).map_err(|stop| judge::number(t, stop))).expect("a sound file");
+            t.held("open", size, Opening::of(Ok(chain.commits())), port::open(lent));
+            chain::questions(t, seeded, lent, &chain);
+        }
+    }
 }

@@ -54,8 +54,8 @@ fn spoil_one(s: &mut Seeded, files: &mut Files) {
     }
 }
 
-/// A spoiled copy of a sound chain.
-pub fn chain(s: &mut Seeded, sound: &Files) -> Input {
+/// A copy of a sound chain with spoiled files, or with its files in another order.
+pub fn files(s: &mut Seeded, sound: &Files) -> Files {
     let mut files = sound.clone();
     match s.below(12) {
         0 => reorder(s, &mut files),
@@ -65,7 +65,12 @@ pub fn chain(s: &mut Seeded, sound: &Files) -> Input {
         }
         _ => spoil_one(s, &mut files),
     }
-    let mut input = files.input("damage");
+    files
+}
+
+/// The same with its list, which may be spoiled too.
+pub fn chain(s: &mut Seeded, sound: &Files) -> Input {
+    let mut input = files(s, sound).input("damage");
     if s.once_in(8) {
         input.kind = "damage of the list";
         spoil_list(s, &mut input.list);

@@ -3,7 +3,7 @@
 use super::{
     Files, Input, damage,
     history::{self, Shape},
-    parts::Parts,
+    parts::{Parts, seal},
     sketch::{self, Commit, EDGE},
     trailer,
 };
@@ -139,7 +139,7 @@ pub fn many_files(seeded: &mut Seeded) -> Vec<Input> {
     inputs
 }
 
-/// An empty file around so many bytes of an unknown chunk. Most of it is memory that nobody touches.
+/// An empty file around so many bytes of an unknown chunk. Its trailer is right where it is read.
 pub fn large(size: usize) -> Input {
     let mut parts = sketch::file(&[], &[]);
     parts.insert(3, *b"XTRA", Vec::new());
@@ -147,6 +147,9 @@ pub fn large(size: usize) -> Input {
     let mut chain = vec![0; size];
     chain[..front.len() - 20].copy_from_slice(&front[..front.len() - 20]);
     chain[60..68].copy_from_slice(&(size as u64 - 20).to_be_bytes());
+    if size <= MOST {
+        seal(&mut chain);
+    }
     let record = Record { length: size as u32, kind: 0, hash: [0; 20] };
     Input { kind: if size > MOST { "1 GiB and a byte" } else { "1 GiB" }, chain, list: record.bytes().to_vec() }
 }

@@ -8,6 +8,7 @@ use std::{
     io::Write,
     path::{Path, PathBuf},
     process::{Command, Stdio},
+    sync::atomic::{AtomicUsize, Ordering::Relaxed},
 };
 
 /// How git is to write a chain.
@@ -52,8 +53,11 @@ fn stream(commits: &[(u64, Vec<usize>)]) -> String {
     text
 }
 
-/// A bare repository.
-struct Repository(PathBuf);
+/// A bare repository, removed with its last holder.
+pub struct Repository(pub PathBuf);
+
+/// How many repositories were made, so that each has a place of its own.
+static MADE: AtomicUsize = AtomicUsize::new(0);
 
 impl Drop for Repository {
     fn drop(&mut self) {
@@ -63,22 +67,27 @@ impl Drop for Repository {
 
 impl Repository {
     fn new(folder: &Path) -> Repository {
-        let place = folder.join(format!("git-{}", std::process::id()));
+        let place = folder.join(format!("git-{}-{}", std::process::id(), MADE.fetch_add(1, Relaxed)));
         fs::create_dir_all(&place).expect("a folder for git");
         let made = Repository(place);
         made.git(&["init", "-q", "--bare", "."], "");
         made
     }
 
-    /// Runs git with this input, away from any settings of its user.
-    fn git(&self, words: &[&str], input: &str) {
+    /// Git in this repository, away from any settings of its user.
+    pub fn command(&self, words: &[&str]) -> Command {
         let mut command = Command::new("git");
         command.args(["-c", "gc.auto=0", "-c", "core.multiPackIndex=false"]).args(words).current_dir(&self.0);
         for (key, _) in std::env::vars_os().filter(|(key, _)| key.to_string_lossy().starts_with("GIT_")) {
             command.env_remove(key);
         }
         command.env("GIT_CONFIG_NOSYSTEM", "1").env("GIT_CONFIG_GLOBAL", "/dev/null").env("HOME", &self.0).env("LC_ALL", "C");
-        let mut child = command.stdin(Stdio::piped()).stdout(Stdio::null()).spawn().expect("git starts");
+        command
+    }
+
+    /// Runs git with this input.
+    fn git(&self, words: &[&str], input: &str) {
+        let mut child = self.command(words).stdin(Stdio::piped()).stdout(Stdio::null()).spawn().expect("git starts");
         child.stdin.take().unwrap().write_all(input.as_bytes()).expect("git reads its input");
         assert!(child.wait().expect("git ends").success(), "git {words:?} failed");
     }
@@ -105,8 +114,13 @@ impl Repository {
     }
 }
 
-/// A chain of a history that git keeps: one plain file, or a split chain with a layer for each part of the history.
+/// A chain of a history that git keeps.
 pub fn chain(seeded: &mut Seeded, folder: &Path, shape: Shape) -> Files {
+    kept(seeded, folder, shape).1
+}
+
+/// The same with its repository: one plain file, or a split chain with a layer for each part of the history.
+pub fn kept(seeded: &mut Seeded, folder: &Path, shape: Shape) -> (Repository, Files) {
     let repository = Repository::new(folder);
     repository.git(&["fast-import", "--quiet", "--export-marks=marks"], &stream(&history(seeded, shape)));
     let ids = repository.ids();
@@ -115,7 +129,7 @@ pub fn chain(seeded: &mut Seeded, folder: &Path, shape: Shape) -> Files {
     if shape.files == 1 && seeded.once_in(2) {
         repository.write(shape, bloom, &[], &ids);
         files.push(repository.read("objects/info/commit-graph"), 0);
-        return files;
+        return (repository, files);
     }
     for k in 1..=shape.files {
         let upto = (ids.len() * k / shape.files).max(1);
@@ -127,7 +141,7 @@ pub fn chain(seeded: &mut Seeded, folder: &Path, shape: Shape) -> Files {
         let (_, record) = &files.0[files.0.len() - 1];
         assert_eq!(record.path(), Path::new(&format!("graph-{hash}.graph")), "git names a file by its trailer");
     }
-    files
+    (repository, files)
 }
 
 /// A shape: 1 to 8 files, generation versions 1 and 2, merges of up to 2, 3, 8 or 70 parents, all by turns.
