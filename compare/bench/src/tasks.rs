@@ -44,7 +44,7 @@ pub fn digest(table: &mut Table, chain: &Chain) {
         state.update(bytes);
         state.try_finalize().expect("a digest").as_bytes().to_vec()
     };
-    table.row("SHA-1 of all bytes", 1, both(7, original, || port::sha1(bytes).bytes.to_vec()));
+    table.row("SHA-1 of all bytes", 1, both(15, original, || port::sha1(bytes).bytes.to_vec()));
 }
 
 pub fn traversal(table: &mut Table, chain: &Chain) {
