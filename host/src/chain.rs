@@ -1,6 +1,6 @@
 //! The bytes of a chain and the list that names its files: what was read, before anything is asked of it.
 
-use crate::{Error, Graph, ffi, paths, read, shapes::Refuses};
+use crate::{Error, Graph, Id, ffi, paths, read, shapes::Refuses};
 use std::{
     ops::Range,
     os::unix::ffi::OsStrExt,
@@ -105,10 +105,26 @@ impl Chain {
         }
     }
 
-    /// Where a file's chunk of this name lies in it, if its index is sound and has one.
-    pub fn chunk(&self, index: usize, name: &[u8; 4]) -> Result<Option<Range<usize>>, Error> {
-        let part = ffi::chunk(self.bytes(index), u32::from_be_bytes(*name)).answer()?;
-        Ok((part.at > 0).then_some(part.at..part.at + part.size))
+    /// The chunks of a file in the order of its index, known ones and others; or why the index cannot be read.
+    pub fn chunks(&self, index: usize) -> Result<Vec<(u32, Range<usize>)>, Error> {
+        let mut all = Vec::new();
+        for k in 0.. {
+            let entry = ffi::entry(self.bytes(index), k).answer()?;
+            if entry.id == 0 {
+                break;
+            }
+            all.push((entry.id, entry.at..entry.at + entry.size));
+        }
+        Ok(all)
+    }
+
+    /// Where a file's trailer lies, the digest there and whether it is right, also where the file does not open.
+    pub fn trailer(&self, index: usize) -> Result<(Range<usize>, Id, bool), Error> {
+        let found = ffi::trailer(self.bytes(index)).answer()?;
+        let at = found.at..found.at + found.size;
+        let id =
+            self.bytes(index).get(at.clone()).and_then(Id::from_bytes).expect("a trailer that the proved code hands out is in its bytes");
+        Ok((at, id, found.right == 1))
     }
 }
 

@@ -15,7 +15,8 @@ use crate::shapes::*;
 unsafe extern "C" {
     fn jampreso_sha1(s: *const u8, n: usize) -> Digest;
     fn jampreso_name(s: *const u8, n: usize) -> Name;
-    fn jampreso_chunk(s: *const u8, n: usize, id: u32) -> Part;
+    fn jampreso_entry(s: *const u8, n: usize, k: u32) -> Entry;
+    fn jampreso_trailer(s: *const u8, n: usize) -> Trailer;
     fn jampreso_file_open(s: *const u8, n: usize) -> Opened;
     fn jampreso_file_id(s: *const u8, n: usize, f: Record, pos: u32) -> Part;
     fn jampreso_file_base(s: *const u8, n: usize, f: Record, j: u32) -> Part;
@@ -24,6 +25,10 @@ unsafe extern "C" {
     fn jampreso_file_verify_checksum(s: *const u8, n: usize, f: Record) -> Asked;
     fn jampreso_file_lookup(s: *const u8, n: usize, f: Record, id: *const u8, w: usize) -> Found;
     fn jampreso_file_commit(s: *const u8, n: usize, f: Record, pos: u32) -> Commit;
+    fn jampreso_file_count(s: *const u8, n: usize, f: Record, pos: u32) -> Total;
+    fn jampreso_file_entry(s: *const u8, n: usize, f: Record, pos: u32) -> Asked;
+    fn jampreso_file_date(s: *const u8, n: usize, f: Record, pos: u32) -> Part;
+    fn jampreso_file_word(s: *const u8, n: usize, f: Record, pos: u32, phase: u32, edge: usize) -> Part;
     fn jampreso_file_step(s: *const u8, n: usize, f: Record, pos: u32, phase: u32, edge: usize) -> Step;
     fn jampreso_file_traverse(s: *const u8, n: usize, list: *const u8, m: usize) -> Traversal;
     fn jampreso_open(s: *const u8, n: usize, list: *const u8, m: usize) -> Opening;
@@ -48,9 +53,14 @@ pub fn name(s: &[u8]) -> Name {
     unsafe { jampreso_name(s.as_ptr(), s.len()) }
 }
 
-pub fn chunk(s: &[u8], id: u32) -> Part {
-    // Sound: the slice is borrowed for the call and only read; any id has its answer.
-    unsafe { jampreso_chunk(s.as_ptr(), s.len(), id) }
+pub fn entry(s: &[u8], k: u32) -> Entry {
+    // Sound: the slice is borrowed for the call and only read; any number has its answer.
+    unsafe { jampreso_entry(s.as_ptr(), s.len(), k) }
+}
+
+pub fn trailer(s: &[u8]) -> Trailer {
+    // Sound: the slice is borrowed for the call and only read.
+    unsafe { jampreso_trailer(s.as_ptr(), s.len()) }
 }
 
 pub fn file_open(s: &[u8]) -> Opened {
@@ -91,6 +101,26 @@ pub fn file_lookup(s: &[u8], f: Record, id: &[u8]) -> Found {
 pub fn file_commit(s: &[u8], f: Record, pos: u32) -> Commit {
     // Sound: as `file_id`.
     unsafe { jampreso_file_commit(s.as_ptr(), s.len(), f, pos) }
+}
+
+pub fn file_count(s: &[u8], f: Record, pos: u32) -> Total {
+    // Sound: as `file_id`.
+    unsafe { jampreso_file_count(s.as_ptr(), s.len(), f, pos) }
+}
+
+pub fn file_entry(s: &[u8], f: Record, pos: u32) -> Asked {
+    // Sound: as `file_id`.
+    unsafe { jampreso_file_entry(s.as_ptr(), s.len(), f, pos) }
+}
+
+pub fn file_date(s: &[u8], f: Record, pos: u32) -> Part {
+    // Sound: as `file_id`.
+    unsafe { jampreso_file_date(s.as_ptr(), s.len(), f, pos) }
+}
+
+pub fn file_word(s: &[u8], f: Record, pos: u32, (phase, edge): (u32, usize)) -> Part {
+    // Sound: as `file_step`.
+    unsafe { jampreso_file_word(s.as_ptr(), s.len(), f, pos, phase, edge) }
 }
 
 pub fn file_step(s: &[u8], f: Record, pos: u32, (phase, edge): (u32, usize)) -> Step {

@@ -1,4 +1,4 @@
-//! The structs that the proved exports answer, field for field as crates/exports/src/lib.rt has them.
+//! The structs that the proved exports answer, field for field as crates/flat/src/lib.rt has them.
 
 macro_rules! shape {
     ($(#[$doc:meta])* $name:ident { $($field:ident: $kind:ty),* $(,)? }) => {
@@ -51,6 +51,14 @@ shape!(
     /// The `size` bytes from `at` on.
     Part { at: usize, size: usize, place: u64, number: u32, file: u32 }
 );
+shape!(
+    /// The chunk that an entry of the index names; id 0 where there is no such entry.
+    Entry { at: usize, size: usize, place: u64, number: u32, file: u32, id: u32, spare: u32 }
+);
+shape!(
+    /// The trailer, and 1 where it is right.
+    Trailer { at: usize, size: usize, place: u64, number: u32, file: u32, right: u32, spare: u32 }
+);
 shape!(Found { place: u64, number: u32, file: u32, found: u32, pos: u32 });
 shape!(
     /// The kind of a parent word: 0 none, 1 a position, 2 an index into EDGE.
@@ -63,6 +71,7 @@ shape!(
     /// Kind 0 is a parent, 1 a refusal, 2 the end; the phase is the one after the step.
     Step { edge: usize, place: u64, number: u32, file: u32, kind: u32, parent: u32, phase: u32, spare: u32 }
 );
+shape!(Total { count: usize, place: u64, number: u32, file: u32 });
 shape!(Traversal {
     most: usize,
     place: u64,
@@ -81,4 +90,4 @@ shape!(
 );
 shape!(Verification { place: u64, number: u32, file: u32, commits: u32, cyclic: u32, length: u32, counts: [u32; 66], spare: u32 });
 
-refusing!(Opened Asked Part Found Commit Step Traversal Opening Spot Verification);
+refusing!(Opened Asked Part Entry Trailer Found Commit Step Total Traversal Opening Spot Verification);

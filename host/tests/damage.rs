@@ -14,11 +14,12 @@ fn number(path: &Path) -> u32 {
 fn ask(path: &Path) {
     let Ok(chain) = Chain::read(path) else { return };
     for k in 0..chain.members().len() {
-        let _ = (chain.traverse(k), chain.chunk(k, b"CDAT"), chain.alone(k).map(|g| g.verify().is_ok()));
+        let _ = (chain.traverse(k), chain.chunks(k), chain.trailer(k), chain.alone(k).map(|g| g.verify().is_ok()));
     }
     let Ok(graph) = chain.graph() else { return };
     for commit in graph.iter_commits() {
         let _ = (commit.id(), commit.root_tree_id(), commit.generation(), commit.committer_timestamp(), graph.lookup(commit.id()));
+        let _ = (commit.trouble(), commit.date_place());
         for parent in commit.iter_places().take(100) {
             let _ = parent.map(|p| graph.try_commit_at(p.position).map(|c| c.id()));
         }
@@ -79,7 +80,67 @@ fn generation() {
     assert!(code == 1 && text.contains(&repo.ids[3]) && text.contains("generation"), "{text}");
 }
 
-/// The same in the last file of a chain, which gets the name that its new trailer asks for.
+/// Two commits without a tree: the file's own traversal tells the first, and each of them tells of itself.
+#[test]
+fn several() {
+    let (repo, folder) = (Repo::single(), Folder::new());
+    let graph = jampreso::at(repo.path()).unwrap();
+    let mut bytes = fs::read(repo.info().join("commit-graph")).unwrap();
+    let hurt: Vec<_> = graph.iter_commits().filter(|c| [2, 5].contains(&c.position().0)).collect();
+    hurt.iter().for_each(|c| bytes[c.tree_place()].fill(0));
+    sign(&mut bytes);
+    let (path, page) = (folder.join("commit-graph"), folder.join("page.html"));
+    fs::write(&path, &bytes).unwrap();
+    let broken = jampreso::at(&path).unwrap();
+    let told: Vec<_> = broken.iter_commits().filter_map(|c| c.trouble()?.refused().map(|r| (r.number, r.place))).collect();
+    assert_eq!(told, [(67, 2), (67, 5)]);
+    assert_eq!(number(&path), 67);
+    let name = path.to_str().unwrap();
+    assert!(said(&["show", name, "5"]).1.contains("trouble       refused 67"));
+    assert!(!said(&["show", name, "4"]).1.contains("trouble"));
+    said(&["files", "--html", page.to_str().unwrap(), name]);
+    let text = fs::read_to_string(&page).unwrap();
+    assert_eq!((text.matches("<tr class=\"damaged\">").count(), text.matches("class=\"hurt\"").count()), (2, 2));
+}
+
+/// A file that does not open still shows its chunks, and whether its trailer is right.
+#[test]
+fn shut() {
+    let (repo, folder) = (Repo::single(), Folder::new());
+    let mut bytes = fs::read(repo.info().join("commit-graph")).unwrap();
+    let path = folder.join("commit-graph");
+    for (signed, word) in [(false, "wrong, "), (true, "right, ")] {
+        bytes[4] = 9;
+        if signed {
+            sign(&mut bytes);
+        }
+        fs::write(&path, &bytes).unwrap();
+        let (code, text, _) = said(&["files", path.to_str().unwrap()]);
+        assert!(code == 1 && text.contains("refused 4") && text.contains(word) && text.contains("CDAT"), "{text}");
+    }
+}
+
+/// Chunks that nobody knows are shown too, by their letters or their number.
+#[test]
+fn unknown() {
+    let (repo, folder) = (Repo::single(), Folder::new());
+    let sound = fs::read(repo.info().join("commit-graph")).unwrap();
+    let path = folder.join("commit-graph");
+    let spot = sound.windows(4).position(|w| w == b"GDA2").unwrap();
+    let size = |text: &str, name: &str| text.lines().find_map(|l| l.trim().strip_prefix(name).map(|r| r.trim().to_owned()));
+    fs::write(&path, &sound).unwrap();
+    let known = size(&said(&["files", path.to_str().unwrap()]).1, "GDA2").unwrap();
+    for (id, name) in [(*b"COIN", "COIN"), ([0, b'\"', b'<', 7], "0x00223c07")] {
+        let mut bytes = sound.clone();
+        bytes[spot..spot + 4].copy_from_slice(&id);
+        sign(&mut bytes);
+        fs::write(&path, &bytes).unwrap();
+        let (code, text, _) = said(&["files", path.to_str().unwrap()]);
+        assert_eq!((code, size(&text, name)), (0, Some(known.clone())), "{text}");
+    }
+}
+
+/// A wrong generation in the last file of a chain, which gets the name that its new trailer asks for.
 #[test]
 fn later() {
     let repo = Repo::chain();

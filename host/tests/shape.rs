@@ -79,6 +79,8 @@ fn places() {
             let bytes = std::fs::read(commit.file().path()).unwrap();
             assert_eq!(&bytes[commit.id_place()], commit.id().as_bytes());
             assert_eq!(&bytes[commit.tree_place()], commit.root_tree_id().as_bytes());
+            let date = u64::from_be_bytes(bytes[commit.date_place()].try_into().unwrap());
+            assert_eq!((date >> 34, date & 0x3_ffff_ffff), (commit.generation().into(), commit.committer_timestamp()));
             for parent in commit.iter_places().map(Result::unwrap) {
                 let word = u32::from_be_bytes(bytes[parent.at].try_into().unwrap());
                 assert_eq!(word & 0x7fff_ffff, parent.position.0);

@@ -6,7 +6,7 @@ use crate::{
     inputs::{Files, Input, bytes, damage, edges, history},
     port,
     seeded::Seeded,
-    shapes::{Part, Record, Total},
+    shapes::{Entry, Part, Record, Total, Trailer},
 };
 use std::time::{Duration, Instant};
 
@@ -81,6 +81,23 @@ fn inside(part: Part, size: usize) {
     assert!(part.number == 0 || part.size == 0, "no part where it is refused: {part:?}");
 }
 
+/// What marks where something stands: the word of a step's parent, a commit's date, the trailer, an entry of the index.
+fn marks(s: &mut Seeded, bytes: &[u8], f: Record, pos: u32, phase: (u32, usize)) -> u64 {
+    let step = port::file_step(bytes, f, pos, phase);
+    let word = port::file_word(bytes, f, pos, phase);
+    inside(word, bytes.len());
+    assert_eq!(word.size, if step.kind == 0 { 4 } else { 0 }, "a word where a parent is: {word:?} {step:?}");
+    let stored = bytes[word.at..word.at + word.size].iter().fold(0, |n, byte| n << 8 | u32::from(*byte));
+    assert_eq!(stored & 0x7fff_ffff, step.parent, "the parent's word: {word:?}");
+    inside(port::file_date(bytes, f, pos), bytes.len());
+    port::file_entry(bytes, f, pos);
+    let Trailer { at, size, place, number, file, .. } = port::trailer(bytes);
+    inside(Part { at, size, place, number, file }, bytes.len());
+    let Entry { at, size, place, number, file, .. } = port::entry(bytes, position(s, 5));
+    inside(Part { at, size, place, number, file }, bytes.len());
+    6
+}
+
 /// A refused list is as it was, and so is what stands behind the last parent.
 fn kept(total: Total, out: &[u32]) {
     let written = if total.number == 0 { total.count } else { 0 };
@@ -102,7 +119,7 @@ fn single(s: &mut Seeded, bytes: &[u8], list: &[u8], id: &[u8], out: &mut Fence)
     port::file_verify_checksum(bytes, f);
     port::file_lookup(bytes, f, id);
     port::file_commit(bytes, f, pos);
-    port::file_step(bytes, f, pos, phase);
+    let marked = marks(s, bytes, f, pos, phase);
     port::file_count(bytes, f, pos);
     let lent = out.words(s.below(LIST + 1), MARK, Side::End);
     kept(port::file_list(bytes, f, pos, lent), lent);
@@ -110,7 +127,7 @@ fn single(s: &mut Seeded, bytes: &[u8], list: &[u8], id: &[u8], out: &mut Fence)
     port::sha1(bytes);
     port::name(id);
     port::name(list);
-    17
+    16 + marked
 }
 
 /// The questions on a chain.

@@ -7,6 +7,8 @@ unsafe extern "C" {
     fn jampreso_sha1(s: *const u8, n: usize) -> Digest;
     fn jampreso_name(s: *const u8, n: usize) -> Name;
     fn jampreso_chunk(s: *const u8, n: usize, id: u32) -> Part;
+    fn jampreso_entry(s: *const u8, n: usize, k: u32) -> Entry;
+    fn jampreso_trailer(s: *const u8, n: usize) -> Trailer;
     fn jampreso_file_open(s: *const u8, n: usize) -> Opened;
     fn jampreso_file_id(s: *const u8, n: usize, f: Record, pos: u32) -> Part;
     fn jampreso_file_base(s: *const u8, n: usize, f: Record, j: u32) -> Part;
@@ -16,6 +18,9 @@ unsafe extern "C" {
     fn jampreso_file_lookup(s: *const u8, n: usize, f: Record, id: *const u8, w: usize) -> Found;
     fn jampreso_file_commit(s: *const u8, n: usize, f: Record, pos: u32) -> Commit;
     fn jampreso_file_step(s: *const u8, n: usize, f: Record, pos: u32, phase: u32, edge: usize) -> Step;
+    fn jampreso_file_word(s: *const u8, n: usize, f: Record, pos: u32, phase: u32, edge: usize) -> Part;
+    fn jampreso_file_date(s: *const u8, n: usize, f: Record, pos: u32) -> Part;
+    fn jampreso_file_entry(s: *const u8, n: usize, f: Record, pos: u32) -> Asked;
     fn jampreso_file_count(s: *const u8, n: usize, f: Record, pos: u32) -> Total;
     fn jampreso_file_list(s: *const u8, n: usize, f: Record, pos: u32, out: *mut u32, room: usize) -> Total;
     fn jampreso_file_traverse(s: *const u8, n: usize, list: *const u8, m: usize) -> Traversal;
@@ -44,6 +49,14 @@ pub fn name(s: &[u8]) -> Name {
 
 pub fn chunk(s: &[u8], id: &[u8; 4]) -> Part {
     unsafe { jampreso_chunk(s.as_ptr(), s.len(), u32::from_be_bytes(*id)) }
+}
+
+pub fn entry(s: &[u8], k: u32) -> Entry {
+    unsafe { jampreso_entry(s.as_ptr(), s.len(), k) }
+}
+
+pub fn trailer(s: &[u8]) -> Trailer {
+    unsafe { jampreso_trailer(s.as_ptr(), s.len()) }
 }
 
 pub fn file_open(s: &[u8]) -> Opened {
@@ -80,6 +93,18 @@ pub fn file_commit(s: &[u8], f: Record, pos: u32) -> Commit {
 
 pub fn file_step(s: &[u8], f: Record, pos: u32, (phase, edge): (u32, usize)) -> Step {
     unsafe { jampreso_file_step(s.as_ptr(), s.len(), f, pos, phase, edge) }
+}
+
+pub fn file_word(s: &[u8], f: Record, pos: u32, (phase, edge): (u32, usize)) -> Part {
+    unsafe { jampreso_file_word(s.as_ptr(), s.len(), f, pos, phase, edge) }
+}
+
+pub fn file_date(s: &[u8], f: Record, pos: u32) -> Part {
+    unsafe { jampreso_file_date(s.as_ptr(), s.len(), f, pos) }
+}
+
+pub fn file_entry(s: &[u8], f: Record, pos: u32) -> Asked {
+    unsafe { jampreso_file_entry(s.as_ptr(), s.len(), f, pos) }
 }
 
 pub fn file_count(s: &[u8], f: Record, pos: u32) -> Total {

@@ -40,6 +40,8 @@ shape!(
 shape!(Opened { record: Record, place: u64, number: u32, file: u32 });
 shape!(Asked { place: u64, number: u32, file: u32 });
 shape!(Part { at: usize, size: usize, place: u64, number: u32, file: u32 });
+shape!(Trailer { at: usize, size: usize, place: u64, number: u32, file: u32, right: u32, spare: u32 });
+shape!(Entry { at: usize, size: usize, place: u64, number: u32, file: u32, id: u32, spare: u32 });
 shape!(Found { place: u64, number: u32, file: u32, found: u32, pos: u32 });
 shape!(Commit {
     time: u64,

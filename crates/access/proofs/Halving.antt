@@ -10,11 +10,11 @@ use borrow.Author.Tests.{le-leb, lt-leb}
 use Rattle.types.specs.declared.refusal.Refusal.{Refusal}
 use Rattle.types.specs.declared.file.Position.{Position}
 use Rattle.words.specs.Big.{be}
-use Rattle.words.specs.Order.{order}
+use Rattle.order.specs.Order.{order}
 use Rattle.words.proofs.Numbers.{le-or-lt}
-use Rattle.words.proofs.Ordered.{order-less, order-equal, order-greater, told}
-use Rattle.words.specs.declared.order.Order.{Order}
-use Rattle.words.specs.declared.order.Order.the-variants.{Less, Equal, Greater}
+use Rattle.order.proofs.Ordered.{order-less, order-equal, order-greater, told}
+use Rattle.order.specs.declared.Order.{Order}
+use Rattle.order.specs.declared.Order.the-variants.{Less, Equal, Greater}
 use Rattle.access.specs.Lookup.{found, pick, turn, mid, turns, halving, lower}
 use Rattle.access.specs.declared.Found.{Found}
 use Rattle.access.specs.declared.Found.the-variants.{At, Absent, Refused}

@@ -11,7 +11,7 @@ use Rattle.types.specs.Refusals.{refusal}
 use Rattle.words.specs.Big.{be, number}
 use Rattle.words.specs.First.{_if_else_}
 use Rattle.words.proofs.Rows.{hit, miss, pass, eq-not, ne-not}
-use Rattle.file.specs.Fits.{fitRule, fanPart, idsPart}
+use Rattle.fit.specs.Fits.{fitRule, fanPart, idsPart}
 use Rattle.access.specs.Lookup.{found, halving, keyOf, upper, lower, refuse, lookupOf}
 use Rattle.file.specs.declared.File.{File}
 use Rattle.access.proofs.Halving.{halving-sound}

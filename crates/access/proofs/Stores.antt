@@ -12,20 +12,20 @@ use lib.Dec.{ltb, eqb, lit<}
 use borrow.Author.Tests.{eqb-true, eqb-false, not-false, ltb-false}
 use Rattle.words.specs.Big.{be, number, Bytes}
 use Rattle.words.proofs.Numbers.{bytes-part}
-use Rattle.words.proofs.Ordered.{same-bytes, same-number}
+use Rattle.order.proofs.Ordered.{same-bytes, same-number}
 use Rattle.words.proofs.Parts.{length-part}
 use Rattle.words.proofs.Rows.{pass}
 use Rattle.words.specs.First.{_if_else_}
 use Rattle.file.specs.Table.{opening}
-use Rattle.file.specs.Fits.{fitRule, fanPart, idsPart, Fitted}
-use Rattle.file.specs.Facts.{Opened, Rises}
+use Rattle.fit.specs.Fits.{fitRule, fanPart, idsPart, Fitted}
+use Rattle.fit.specs.Facts.{Opened, Rises}
 use Rattle.access.specs.Lookup.{found, halving, keyOf, upper, lower, refuse, lookupOf, stored, leading, Ordered, Answers, Finds, Right}
 use Rattle.file.specs.declared.File.{File}
 use Rattle.file.specs.declared.Opening.the-variants.{Open}
 use Rattle.access.specs.declared.Found.{Found}
 use Rattle.access.specs.declared.Found.the-variants.{At, Absent, Refused}
-use Rattle.file.proofs.Opens.{opened, rising}
-use Rattle.file.proofs.Fitting.{opened-fits, run-within}
+use Rattle.fit.proofs.Opens.{opened, rising}
+use Rattle.fit.proofs.Fitting.{opened-fits, run-within}
 use Rattle.access.proofs.Halving.{halving-sound, halving-answers, halving-whole}
 use Rattle.access.proofs.Looks.{look-width, look-search}
 

@@ -9,10 +9,10 @@ use lib.Dec.{ltb, leb, eqb}
 use Rattle.types.specs.Refusals.{refusal}
 use Rattle.words.specs.Big.{be, number}
 use Rattle.words.specs.First.{_if_else_}
-use Rattle.words.specs.Order.{order}
-use Rattle.words.specs.declared.order.Order.{Order}
-use Rattle.words.specs.declared.order.Order.the-variants.{Less, Equal, Greater}
-use Rattle.file.specs.Fits.{fitRule, fanPart, idsPart}
+use Rattle.order.specs.Order.{order}
+use Rattle.order.specs.declared.Order.{Order}
+use Rattle.order.specs.declared.Order.the-variants.{Less, Equal, Greater}
+use Rattle.fit.specs.Fits.{fitRule, fanPart, idsPart}
 use Rattle.file.specs.Table.{opening}
 use Rattle.file.specs.declared.File.{File}
 use Rattle.file.specs.declared.Opening.the-variants.{Open}

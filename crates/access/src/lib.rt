@@ -1,15 +1,15 @@
 // Ids of one file: at a position, of its bases, and the position of an id.
 use file::File;
-use file::fit::ask;
-use file::fit::fit;
+use fit::ask;
+use fit::fit;
+use order::Order;
+use order::compare;
 use types::file::Position;
 use types::refusal;
 use types::refusal::ID_WIDTH;
 use types::refusal::POSITION;
 use types::refusal::Refusal;
 use words::big::be32;
-use words::order::Order;
-use words::order::compare;
 use words::part::part;
 ghost use mathlib.Core.Path.{_≡_};
 ghost use Prim.Native.Nat.{_+_, _*_, _<_};
@@ -17,7 +17,7 @@ ghost use lib.ListN.{length};
 ghost use Rattle.types.specs.Refusals.{refusal};
 ghost use Rattle.words.specs.Big.{number};
 ghost use Rattle.words.specs.Part.{PartOf};
-ghost use Rattle.file.specs.Fits.{askRule, AskedPart, Fitted};
+ghost use Rattle.fit.specs.Fits.{askRule, AskedPart, Fitted};
 ghost use Rattle.access.specs.Lookup.{asking, keyOf, lower, halving, lookupOf, Right};
 
 // Which refusal a question for a part met.

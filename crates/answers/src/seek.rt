@@ -3,8 +3,8 @@ use access::Found;
 use access::id_at;
 use access::lookup;
 use file::File;
+use order::same;
 use types::file::Position;
-use words::order::same;
 
 fn flip(b: u8) -> u8 {
     if b % 2 == 0 { b + 1 } else { b - 1 }

@@ -6,9 +6,9 @@ use cases::step::answer;
 use cases::step::phase;
 use file::File;
 use parents::Answer;
-use parents::Phase;
 use parents::Total;
 use parents::step_at;
+use steps::Phase;
 use types::file::Position;
 
 // Prints the parents of a commit, or the refusal behind those that were met, and hands back how the walk ended.

@@ -3,7 +3,7 @@ use super::print::number;
 use super::print::print;
 use super::print::refusal;
 use parents::Answer;
-use parents::Phase;
+use steps::Phase;
 
 // The phase of a number: 0 first, 1 second, 2 EDGE, any other exhausted.
 pub fn phase_of(kind: u8, k: usize) -> Phase {

@@ -7,7 +7,7 @@
 // What it reads and what it must print is made by `python3 tests/chains.py crates/chains`.
 mod list;
 mod show;
-mod steps;
+mod step;
 mod whole;
 
 use cases::record::read;
@@ -15,7 +15,7 @@ use cases::record::room;
 use list::lists;
 use show::found;
 use show::positions;
-use steps::steps;
+use step::steps;
 use whole::whole;
 use words::big::be32;
 use words::part::part;

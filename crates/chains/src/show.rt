@@ -1,5 +1,11 @@
 // Words of where a position stands, of the answers by position, and of lookup.
 use access::Asking;
+use ask::lookup::Found;
+use ask::lookup::find;
+use ask::positions::commit_at;
+use ask::positions::id_at;
+use ask::positions::tree_at;
+use ask::positions::which;
 use cases::print::hex;
 use cases::print::number;
 use cases::print::print;
@@ -10,12 +16,6 @@ use commit::ParentEdge;
 use graph::locate::Located;
 use graph::locate::Spot;
 use graph::locate::locate;
-use graph::lookup::Found;
-use graph::lookup::find;
-use graph::positions::commit_at;
-use graph::positions::id_at;
-use graph::positions::tree_at;
-use graph::positions::which;
 use types::graph::Position;
 use words::big::be32;
 

@@ -2,13 +2,13 @@
 use super::list::listed;
 use super::show::found;
 use super::show::position;
-use super::steps::walk;
+use super::step::walk;
+use ask::positions::id_at;
 use cases::print::number;
 use cases::print::print;
 use cases::print::refusal;
 use graph::init::Opening;
 use graph::init::open;
-use graph::positions::id_at;
 use types::graph::Position;
 
 // Prints the line of a position; a list of 4 entries is lent for its parents.

@@ -1,5 +1,5 @@
 -- The chunk index: gitformat-chunk, and gitformat-commit-graph's "Chunk LOOKUP". A table's rows stand in document 01's order; 0 is no refusal.
-use Prim.Native.Nat.{ℕ, _+_, _-_, _*_, _≤_, _<_}
+use Prim.Native.Nat.{ℕ, zero, suc, _+_, _-_, _*_, _≤_, _<_}
 use mathlib.Core.List.{List}
 use mathlib.Core.Bool.{Bool, true, false, not}
 use mathlib.Core.Path.{_≡_}
@@ -7,9 +7,13 @@ use lib.ListN.{length, getD}
 use lib.Dec.{ltb, leb, eqb}
 use Rattle.words.specs.Big.{be}
 use Rattle.words.specs.First.{_if_else_, first}
+use Rattle.types.specs.Refusals.{refusal}
 use Rattle.chunk.specs.declared.Span.{Span}
 use Rattle.chunk.specs.declared.Chunk.{Chunk}
 use Rattle.chunk.specs.declared.Chunk.the-variants.{At, Absent}
+use Rattle.chunk.specs.declared.Entry.{Entry}
+use Rattle.chunk.specs.declared.Indexed.{Indexed as Listed}
+use Rattle.chunk.specs.declared.Indexed.the-variants.{Entry as Is, Past, Refused}
 
 -- the chunk count C
 abbrev pub chunks : List ℕ → ℕ
@@ -88,6 +92,21 @@ startOf Absent = 0
 abbrev pub sizeOf : Chunk → ℕ
 sizeOf (At p) = p .end - p .start
 sizeOf Absent = 0
+
+-- entry k before the last: its id and its chunk; the index's own refusals come first, then whether there is such an entry
+unfoldable pub entryOf : List ℕ → ℕ → Entry
+entryOf l k = record { id = idAt l k; span = record { start = offAt l k; end = offAt l (k + 1) } }
+
+unfoldable pub pickEntry : Bool → Listed → Listed → Listed
+pickEntry true a b = a
+pickEntry false a b = b
+
+unfoldable pub refuseEntry : ℕ → ℕ → Listed → Listed
+refuseEntry zero place rest = rest
+refuseEntry (suc n) place rest = Refused (refusal (suc n) place)
+
+unfoldable pub nthOf : List ℕ → ℕ → Listed
+nthOf l k = refuseEntry (indexRule l) (indexPlace l) (pickEntry (leb (chunks l) k) Past (Is (entryOf l k)))
 
 -- what a sound index gives: each chunk lies between the index and the file's end, and the last of them where the trailer begins
 pub record Indexed (l : List ℕ) : Type 0 where

@@ -1,18 +1,18 @@
 // The chunk index of a file: C + 1 entries of 12 bytes behind the header of 8, each a 4-byte id and an 8-byte offset.
-mod entry;
+mod index;
 
-use entry::bad_entry;
-use entry::count;
-use entry::entry_rule;
-use entry::id;
-use entry::offset;
-use entry::seek;
+use index::bad_entry;
+use index::count;
+use index::entry_rule;
+use index::id;
+use index::offset;
+use index::seek;
 use types::refusal;
 use types::refusal::Refusal;
 ghost use mathlib.Core.Path.{_≡_};
 ghost use Prim.Native.Nat.{_+_};
 ghost use Rattle.types.specs.Refusals.{refusal};
-ghost use Rattle.chunk.specs.Index.{chunks, offAt, chunkOf, absent, startOf, sizeOf, indexRule, indexPlace};
+ghost use Rattle.chunk.specs.Index.{chunks, offAt, chunkOf, absent, startOf, sizeOf, indexRule, indexPlace, nthOf};
 
 // The bytes from `start` up to `end`, as the index says.
 pub struct Span {
@@ -23,6 +23,18 @@ pub struct Span {
 pub enum Chunk {
     At(Span),
     Absent,
+}
+
+// An entry of the index: the chunk's id and its bytes.
+pub struct Entry {
+    pub id: u32,
+    pub span: Span,
+}
+
+pub enum Indexed {
+    Entry(Entry),
+    Past,
+    Refused(Refusal),
 }
 
 // The chunk with the id `x`.
@@ -95,4 +107,25 @@ pub fn check(s: &[u8]) -> Refusal
         return refusal::at(refusal::INDEX_ID, e as u64);
     }
     refusal::at(0, e as u64)
+}
+
+// Entry `k` of a sound index, the last left out; 6 to 9 where the index is not sound.
+pub fn nth(s: &[u8], k: u32) -> Indexed
+    ensures { λ r. ⌜ r ≡ nthOf (now (s .entry)) k ⌝ }
+{
+    let r = check(s);
+    if 0 < r.number {
+        return Indexed::Refused(r);
+    }
+    let i = k as usize;
+    if count(s) <= i {
+        return Indexed::Past;
+    }
+    let id = id(s, i);
+    let start = offset(s, i);
+    let end = offset(s, i + 1);
+    Indexed::Entry(Entry {
+        id,
+        span: Span { start, end },
+    })
 }

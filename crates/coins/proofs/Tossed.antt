@@ -5,8 +5,8 @@ use Rattle.words.specs.Big.{be}
 use Rattle.words.specs.First.{_if_else_}
 use Rattle.ancestry.specs.Graph.{highestIn, lengthOf}
 use Rattle.commit.specs.Commits.{edgeOf, pickEdge, commitOf}
-use Rattle.parents.specs.Walks.{extraOf, pickExtra, edgeRule}
-use Rattle.verify.specs.Rules.{lengthBy}
+use Rattle.steps.specs.Walks.{extraOf, pickExtra, edgeRule}
+use Rattle.audit.specs.Rules.{lengthBy}
 use Rattle.coins.specs.Coins.{All, coins}
 
 pub all-coins : All coins

@@ -6,14 +6,14 @@ use mathlib.Core.Path.{_≡_}
 use lib.ListN.{replicate}
 use Rattle.ancestry.specs.Graph.{rightGen, lengthOf}
 use Rattle.commit.specs.Commits.{edgeOf, commitOf}
-use Rattle.parents.specs.Walks.{extraOf, edgeRule}
+use Rattle.steps.specs.Walks.{extraOf, edgeRule}
 use Rattle.commit.specs.declared.ParentEdge.{ParentEdge}
-use Rattle.parents.specs.declared.ExtraEdge.{ExtraEdge}
+use Rattle.steps.specs.declared.ExtraEdge.{ExtraEdge}
 use Rattle.commit.specs.declared.ParentEdge.the-variants.{None, GraphPosition, ExtraEdgeIndex}
-use Rattle.parents.specs.declared.ExtraEdge.the-variants.{Internal, Last}
-use Rattle.verify.specs.Rules.{lengthBy}
-use Rattle.verify.specs.declared.Length.{Length}
-use Rattle.verify.specs.declared.Length.the-variants.{Steps}
+use Rattle.steps.specs.declared.ExtraEdge.the-variants.{Internal, Last}
+use Rattle.audit.specs.Rules.{lengthBy}
+use Rattle.audit.specs.declared.Length.{Length}
+use Rattle.audit.specs.declared.Length.the-variants.{Steps}
 
 pub record Coin : Type 1 where
   pub kind : Type 0

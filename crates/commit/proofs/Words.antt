@@ -11,14 +11,14 @@ use Rattle.types.specs.Refusals.{refusal}
 use Rattle.types.specs.declared.refusal.Refusal.{Refusal}
 use Rattle.words.proofs.Parts.{length-part}
 use Rattle.words.proofs.Rows.{miss, pass}
-use Rattle.file.specs.Fits.{known, fitRule, askRule, rowsPart, Fitted}
+use Rattle.fit.specs.Fits.{known, fitRule, askRule, rowsPart, Fitted}
 use Rattle.commit.specs.Commits.{pickEdge, edgeOf, commitOf, rowRule, refuseCommit, commitIn, rowOf, commitAt}
 use Rattle.file.specs.declared.File.{File}
 use Rattle.commit.specs.declared.Commit.{Commit}
 use Rattle.commit.specs.declared.Asked.{Asked}
 use Rattle.commit.specs.declared.Asked.the-variants.{Commit as Is, Refused}
 use Rattle.commit.specs.declared.ParentEdge.the-variants.{None, GraphPosition, ExtraEdgeIndex}
-use Rattle.file.proofs.Fitting.{Answered, answered, run-within}
+use Rattle.fit.proofs.Fitting.{Answered, answered, run-within}
 
 module _ (x : ℕ) where
   pub edge-none : x ≡ 0x70000000 → None ≡ edgeOf x

@@ -7,7 +7,7 @@ use lib.Dec.{ltb, leb, eqb}
 use Rattle.types.specs.Refusals.{refusal}
 use Rattle.words.specs.Big.{be}
 use Rattle.words.specs.First.{_if_else_}
-use Rattle.file.specs.Fits.{known, askRule, rowsPart}
+use Rattle.fit.specs.Fits.{known, askRule, rowsPart}
 use Rattle.file.specs.declared.File.{File}
 use Rattle.commit.specs.declared.Commit.{Commit}
 use Rattle.commit.specs.declared.Asked.{Asked}

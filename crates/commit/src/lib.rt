@@ -1,6 +1,6 @@
 // Commits of one file: tree, generation, time and parent words.
 use file::File;
-use file::fit::ask;
+use fit::ask;
 use types::graph::Position;
 use types::refusal;
 use types::refusal::POSITION;
@@ -13,7 +13,7 @@ ghost use lib.ListN.{length};
 ghost use Rattle.types.specs.Refusals.{refusal};
 ghost use Rattle.commit.specs.Commits.{edgeOf, rowRule, commitOf, commitIn, rowOf, commitAt};
 ghost use Rattle.words.specs.Part.{PartOf};
-ghost use Rattle.file.specs.Fits.{askRule, AskedPart, Fitted};
+ghost use Rattle.fit.specs.Fits.{askRule, AskedPart, Fitted};
 
 // A parent word: none, a position in the chain, or an index into EDGE.
 pub enum ParentEdge {

@@ -1,65 +1,72 @@
 // Questions on one file, and on a digest and a name. A file's record is what `jampreso_file_open` answered, passed back.
-use super::Asked;
-use super::Commit;
-use super::Digest;
-use super::Found;
-use super::Name;
-use super::Opened;
-use super::Part;
-use super::Record;
-use super::Step;
-use super::Total;
-use super::Traversal;
-use super::blank;
-use super::commit_flat;
-use super::file_of;
-use super::no_part;
-use super::part_at;
-use super::phase_of;
-use super::record_of;
-use super::step_flat;
-use super::total_flat;
-use access::Asking;
 use access::lookup;
-use chunk::check;
-use chunk::find;
-use chunk::size;
-use chunk::start;
+use chunk::nth;
 use commit::commit_at;
-use file::File;
-use file::Opening;
-use file::fit::ask;
-use file::fit::fit;
 use file::init::open;
-use file::name::read;
+use flat::Asked;
+use flat::Commit;
+use flat::Digest;
+use flat::Entry;
+use flat::Found;
+use flat::Name;
+use flat::Opened;
+use flat::Part;
+use flat::Record;
+use flat::Step;
+use flat::Total;
+use flat::Trailer;
+use flat::Traversal;
+use flat::answers::asked_flat;
+use flat::answers::found_in_flat;
+use flat::commits::commit_flat;
+use flat::parts::entry_flat;
+use flat::parts::mark_flat;
+use flat::parts::trailer_flat;
+use flat::records::file_of;
+use flat::records::opened_flat;
+use flat::verdicts::traversal_flat;
+use flat::walks::phase_of;
+use flat::walks::stepped_flat;
+use flat::walks::total_flat;
+use marks::date_at;
+use marks::entry_at;
+use marks::trailer;
+use marks::word_at;
+use name::read;
 use parents::count_at;
 use parents::listing::list_at;
 use parents::step_at;
+use places::base_part;
+use places::chunk_part;
+use places::id_part;
+use places::sum_part;
+use places::tree_part;
 use sha1::sha1;
-use traverse::Verdict;
+use sums::verify_checksum;
 use traverse::traverse;
-use traverse::verify_checksum;
 use types::file::Position;
-use types::refusal;
 ghost use mathlib.Core.Path.{_≡_};
-ghost use Prim.Native.Nat.{_+_, _*_, _≤_};
 ghost use lib.ListN.{length};
 ghost use Rattle.sha1.specs.Fips.{sha1Of};
-ghost use Rattle.file.specs.Names.{nameOf};
+ghost use Rattle.chunk.specs.Index.{nthOf};
+ghost use Rattle.name.specs.Names.{nameOf};
 ghost use Rattle.file.specs.Table.{opening};
-ghost use Rattle.file.specs.Fits.{askRule, Fitted};
 ghost use Rattle.access.specs.Lookup.{asking, lookupOf};
 ghost use Rattle.commit.specs.Commits.{commitAt};
 ghost use Rattle.parents.specs.Walks.{stepOf, totalOf};
 ghost use Rattle.parents.specs.Lists.{listOf, heldOf};
-ghost use Rattle.traverse.specs.Traversal.{checksumRule, traversal};
-ghost use Rattle.exports.specs.Records.{fileOf, flatOpened, Returns};
-ghost use Rattle.exports.specs.Places.{chunkPart, idPart, treePart, basePart, sumPart};
-ghost use Rattle.exports.specs.Images.{
+ghost use Rattle.traverse.specs.Traversal.{traversal};
+ghost use Rattle.sums.specs.Sums.{checksumRule};
+ghost use Rattle.flat.specs.Records.{fileOf, flatOpened, Returns};
+ghost use Rattle.marks.specs.Marks.{wordOf, dateOf, entryOf, checkOf};
+ghost use Rattle.places.specs.Places.{chunkPart, idPart, treePart, basePart, sumPart};
+ghost use Rattle.flat.specs.Images.{
   flatDigest,
   flatName,
-  flatPart,
   flatAsked,
+  flatMark,
+  flatTrailer,
+  flatEntry,
   flatFoundIn,
   flatCommit,
   phaseOf,
@@ -92,12 +99,23 @@ pub extern "C" fn jampreso_name(name: &[u8]) -> Name
 pub extern "C" fn jampreso_chunk(s: &[u8], id: u32) -> Part
     ensures { λ r. ⌜ r ≡ chunkPart (now (s .entry)) id ⌝ }
 {
-    let m = check(s);
-    if 0 < m.number {
-        return no_part(m);
-    }
-    let c = find(s, id);
-    part_at(start(c), size(c))
+    chunk_part(s, id)
+}
+
+// Entry `k` of a file's index, where that is sound; the id 0 and no bytes at 0 past the last.
+#[no_mangle]
+pub extern "C" fn jampreso_entry(s: &[u8], k: u32) -> Entry
+    ensures { λ r. ⌜ r ≡ flatEntry (nthOf (now (s .entry)) k) ⌝ }
+{
+    entry_flat(nth(s, k))
+}
+
+// The trailer of any bytes of a file's size, and whether it is the SHA-1 of those before it.
+#[no_mangle]
+pub extern "C" fn jampreso_trailer(s: &[u8]) -> Trailer
+    ensures { λ r. ⌜ r ≡ flatTrailer (checkOf (now (s .entry))) ⌝ }
+{
+    trailer_flat(trailer(s))
 }
 
 // Opens one file.
@@ -106,33 +124,7 @@ pub extern "C" fn jampreso_file_open(s: &[u8]) -> Opened
     ensures is { λ r. ⌜ r ≡ flatOpened (opening (now (s .entry))) ⌝ }
     ensures back { λ r. ⌜ Returns (now (s .entry)) r ⌝ }
 {
-    let o = open(s);
-    match o {
-        Opening::Open(f) => Opened {
-            record: record_of(f),
-            place: 0,
-            number: 0,
-            file: 0,
-        },
-        Opening::Refused(r) => Opened {
-            record: blank(),
-            place: r.place,
-            number: r.number,
-            file: r.file,
-        },
-    }
-}
-
-// Row `i` of the `n` rows from `from` on, each `more` bytes longer than an id, which it starts with.
-fn row_at(s: &[u8], f: File, n: u32, i: u32, from: usize, more: usize) -> Part
-    requires { ⌜ (Fitted (now s) f → from + n * (f .width + more) ≤ length (now s)) ⌝ }
-    ensures { λ r. ⌜ r ≡ flatPart (asking (askRule (now (s .entry)) f n i)) (from + i * (f .width + more)) (f .width) ⌝ }
-{
-    let m = ask(s, f, n, i);
-    if 0 < m {
-        return no_part(refusal::at(m, 0));
-    }
-    part_at(from + (i as usize) * (f.width + more), f.width)
+    opened_flat(open(s))
 }
 
 // The id of a commit.
@@ -140,8 +132,7 @@ fn row_at(s: &[u8], f: File, n: u32, i: u32, from: usize, more: usize) -> Part
 pub extern "C" fn jampreso_file_id(s: &[u8], f: Record, pos: u32) -> Part
     ensures { λ r. ⌜ r ≡ idPart (now (s .entry)) (fileOf f) pos ⌝ }
 {
-    let g = file_of(f);
-    row_at(s, g, g.commits, pos, g.oidl, 0)
+    id_part(s, file_of(f), Position(pos))
 }
 
 // The id of base `j`.
@@ -149,8 +140,7 @@ pub extern "C" fn jampreso_file_id(s: &[u8], f: Record, pos: u32) -> Part
 pub extern "C" fn jampreso_file_base(s: &[u8], f: Record, j: u32) -> Part
     ensures { λ r. ⌜ r ≡ basePart (now (s .entry)) (fileOf f) j ⌝ }
 {
-    let g = file_of(f);
-    row_at(s, g, g.bases as u32, j, g.base, 0)
+    base_part(s, file_of(f), j)
 }
 
 // The tree of a commit.
@@ -158,8 +148,7 @@ pub extern "C" fn jampreso_file_base(s: &[u8], f: Record, j: u32) -> Part
 pub extern "C" fn jampreso_file_tree(s: &[u8], f: Record, pos: u32) -> Part
     ensures { λ r. ⌜ r ≡ treePart (now (s .entry)) (fileOf f) pos ⌝ }
 {
-    let g = file_of(f);
-    row_at(s, g, g.commits, pos, g.cdat, 16)
+    tree_part(s, file_of(f), Position(pos))
 }
 
 // The trailer.
@@ -167,12 +156,7 @@ pub extern "C" fn jampreso_file_tree(s: &[u8], f: Record, pos: u32) -> Part
 pub extern "C" fn jampreso_file_checksum(s: &[u8], f: Record) -> Part
     ensures { λ r. ⌜ r ≡ sumPart (now (s .entry)) (fileOf f) ⌝ }
 {
-    let g = file_of(f);
-    let m = fit(s, g);
-    if 0 < m {
-        return no_part(refusal::at(m, 0));
-    }
-    part_at(s.len() - g.width, g.width)
+    sum_part(s, file_of(f))
 }
 
 // Whether the trailer is the SHA-1.
@@ -180,20 +164,7 @@ pub extern "C" fn jampreso_file_checksum(s: &[u8], f: Record) -> Part
 pub extern "C" fn jampreso_file_verify_checksum(s: &[u8], f: Record) -> Asked
     ensures { λ r. ⌜ r ≡ flatAsked (asking (checksumRule (now (s .entry)) (fileOf f))) ⌝ }
 {
-    let g = file_of(f);
-    let a = verify_checksum(s, g);
-    match a {
-        Asking::Fine => Asked {
-            place: 0,
-            number: 0,
-            file: 0,
-        },
-        Asking::Refused(r) => Asked {
-            place: r.place,
-            number: r.number,
-            file: r.file,
-        },
-    }
+    asked_flat(verify_checksum(s, file_of(f)))
 }
 
 // The position of an id.
@@ -201,31 +172,7 @@ pub extern "C" fn jampreso_file_verify_checksum(s: &[u8], f: Record) -> Asked
 pub extern "C" fn jampreso_file_lookup(s: &[u8], f: Record, id: &[u8]) -> Found
     ensures { λ r. ⌜ r ≡ flatFoundIn (lookupOf (now (s .entry)) (fileOf f) (now (id .entry))) ⌝ }
 {
-    let g = file_of(f);
-    let y = lookup(s, g, id);
-    match y {
-        access::Found::At(p) => Found {
-            place: 0,
-            number: 0,
-            file: 0,
-            found: 1,
-            pos: p.0,
-        },
-        access::Found::Absent => Found {
-            place: 0,
-            number: 0,
-            file: 0,
-            found: 0,
-            pos: 0,
-        },
-        access::Found::Refused(r) => Found {
-            place: r.place,
-            number: r.number,
-            file: r.file,
-            found: 0,
-            pos: 0,
-        },
-    }
+    found_in_flat(lookup(s, file_of(f), id))
 }
 
 // A commit.
@@ -242,10 +189,31 @@ pub extern "C" fn jampreso_file_step(s: &[u8], f: Record, pos: u32, phase: u32, 
     ensures is { λ r. ⌜ r ≡ flatStepped (stepOf (now (s .entry)) (fileOf f) pos (phaseOf phase edge)) ⌝ }
     ensures next { λ r. ⌜ phaseOf (r .phase) (r .edge) ≡ stepOf (now (s .entry)) (fileOf f) pos (phaseOf phase edge) .next ⌝ }
 {
-    let x = step_at(s, file_of(f), Position(pos), phase_of(phase, edge));
-    let answer = x.answer;
-    let next = x.next;
-    step_flat(answer, next)
+    stepped_flat(step_at(s, file_of(f), Position(pos), phase_of(phase, edge)))
+}
+
+// The word that holds the parent which a step answers; no bytes at 0 where it answers the end.
+#[no_mangle]
+pub extern "C" fn jampreso_file_word(s: &[u8], f: Record, pos: u32, phase: u32, edge: usize) -> Part
+    ensures { λ r. ⌜ r ≡ flatMark (wordOf (now (s .entry)) (fileOf f) pos (phaseOf phase edge)) ⌝ }
+{
+    mark_flat(word_at(s, file_of(f), Position(pos), phase_of(phase, edge)))
+}
+
+// The bytes that hold a commit's generation and time.
+#[no_mangle]
+pub extern "C" fn jampreso_file_date(s: &[u8], f: Record, pos: u32) -> Part
+    ensures { λ r. ⌜ r ≡ flatMark (dateOf (now (s .entry)) (fileOf f) pos) ⌝ }
+{
+    mark_flat(date_at(s, file_of(f), Position(pos)))
+}
+
+// Which of 64 to 67 a commit meets.
+#[no_mangle]
+pub extern "C" fn jampreso_file_entry(s: &[u8], f: Record, pos: u32) -> Asked
+    ensures { λ r. ⌜ r ≡ flatAsked (entryOf (now (s .entry)) (fileOf f) pos) ⌝ }
+{
+    asked_flat(entry_at(s, file_of(f), Position(pos)))
 }
 
 // How many parents a commit has.
@@ -270,31 +238,5 @@ pub extern "C" fn jampreso_file_list(s: &[u8], f: Record, pos: u32, out: &mut [u
 pub extern "C" fn jampreso_file_traverse(s: &[u8], list: &[u8]) -> Traversal
     ensures { λ r. ⌜ r ≡ flatTraversal (traversal 32 (now (s .entry)) (now (list .entry))) ⌝ }
 {
-    let t = traverse(s, list);
-    let verdict = t.verdict;
-    let counts = t.counts;
-    match verdict {
-        Verdict::Accepted(m) => Traversal {
-            most: m.most,
-            place: 0,
-            number: 0,
-            file: 0,
-            commits: m.commits,
-            highest: m.highest,
-            lowest: m.lowest,
-            counts,
-            spare: 0,
-        },
-        Verdict::Refused(r) => Traversal {
-            most: 0,
-            place: r.place,
-            number: r.number,
-            file: r.file,
-            commits: 0,
-            highest: 0,
-            lowest: 0,
-            counts,
-            spare: 0,
-        },
-    }
+    traversal_flat(traverse(s, list))
 }

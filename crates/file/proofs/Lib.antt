@@ -1,5 +1,2 @@
 pub mod Fan
 pub mod Stages
-pub mod Opens
-pub mod Hex
-pub mod Fitting

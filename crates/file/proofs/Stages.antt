@@ -18,7 +18,6 @@ use Rattle.words.proofs.Rows.{hit, miss, pass}
 use Rattle.chunk.specs.Index.{startOf, sizeOf}
 use Rattle.chunk.specs.declared.Chunk.{Chunk}
 use Rattle.file.specs.Table.{width, header, peak, peakBy, partOf, refuse}
-use Rattle.file.specs.Fits.{known}
 use Rattle.file.specs.declared.Opening.{Opening}
 use Rattle.file.specs.declared.Opening.the-variants.{Open, Refused}
 
@@ -68,10 +67,6 @@ headed l e =
 pub width-wide : (l : List ℕ) → (0 < width l) × (width l < 1000)
 unfolding width
 width-wide l = omega arith
-
-pub width-known : (l : List ℕ) → known (width l) ≡ true
-unfolding width
-width-known l = refl
 
 -- the part that was cut out of a file for a chunk that lies in it is the chunk's own bytes
 pub cut-part : (s r : RefT (List ℕ)) (c : Chunk) (a n : ℕ) → a ≡ startOf c → n ≡ sizeOf c → startOf c + sizeOf c ≤ length (s .now)

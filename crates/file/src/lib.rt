@@ -1,7 +1,5 @@
 // One commit-graph file. The ids and numbers are those of gitformat-commit-graph.
-pub mod fit;
 pub mod init;
-pub mod name;
 mod rules;
 
 use chunk::Chunk;

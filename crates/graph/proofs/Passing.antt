@@ -7,20 +7,22 @@ use mathlib.Core.Logic.{⊎-elim}
 use native.Mathlib.Omega.{arith}
 use native.Mathlib.Nat.{sub-zero}
 use lib.ListN.{length}
+use denote.Ref.{RefT}
 use borrow.Author.Tests.{lt-ltb, le-ltb, le-leb, lt-leb, eqb-true}
 use Rattle.types.specs.Refusals.{refusal}
 use Rattle.types.specs.declared.refusal.Refusal.{Refusal}
+use Rattle.words.specs.Part.{RecordsOf}
 use Rattle.words.specs.Sums.{before}
 use Rattle.words.proofs.Adds.{before-next, before-lt}
 use Rattle.words.proofs.Numbers.{le-or-lt}
-use Rattle.words.proofs.Parts.{length-part}
+use Rattle.words.proofs.Parts.{length-part, run-in}
 use Rattle.list.specs.List.{lengthAt}
 use Rattle.file.specs.Table.{opening}
-use Rattle.file.specs.Facts.{Opened}
+use Rattle.fit.specs.Facts.{Opened}
 use Rattle.file.specs.declared.File.{File}
 use Rattle.file.specs.declared.Opening.{Opening}
 use Rattle.file.specs.declared.Opening.the-variants.{Open, Refused}
-use Rattle.file.proofs.Opens.{opened, refused-named}
+use Rattle.fit.proofs.Opens.{opened, refused-named}
 use Rattle.graph.specs.Chain.{placed, commitsOf, startAt, partAt, openAt, countAt, openOr, openFrom, Listed}
 use Rattle.graph.specs.Passes.{pickMark, keptOf, Holds, Kept, Surveyed}
 use Rattle.graph.specs.declared.locate.Spot.{Spot}
@@ -191,3 +193,9 @@ module _ (z : ℕ) (c l : List ℕ) where
           commits = λ w. p .along .total ∙ ap (before (countAt z c l)) q;
           kept = λ w. rw q at (p .kept);
         }
+
+-- what is cut from the chain is file k
+pub part-is : (z : ℕ) (s : RefT (List ℕ)) (l : List ℕ) (n : ℕ) (d : Listed z (s .now) l n) (k at m : ℕ) → k < n → at ≡ startAt z (s .now) l k → m ≡ lengthAt z l k
+    → (x : RefT (List ℕ)) → RecordsOf s at m 1 x → x .now ≡ partAt z (s .now) l k
+unfolding partAt
+part-is z s l n d k at m h e y x p = run-in s x at m (omega (arith, file-room z (s .now) l n d k h)) p .bytes ∙ rw (e, y)

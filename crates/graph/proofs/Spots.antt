@@ -17,7 +17,7 @@ use Rattle.file.specs.declared.File.{File}
 use Rattle.file.specs.declared.Opening.the-variants.{Open}
 use Rattle.graph.specs.Chain.{pickRefusal, startAt, partAt, openAt, countAt, commitsIn, fileOf, posOf, opened, asked}
 use Rattle.graph.specs.Passes.{Holds, Viewed}
-use Rattle.graph.specs.Questions.{spotIn, pickLocated, located}
+use Rattle.graph.specs.Spots.{spotIn, pickLocated, located}
 use Rattle.graph.specs.Theorems.{Spotted, FileOf}
 use Rattle.graph.specs.declared.locate.Located.the-variants.{At, Refused as Nowhere}
 use Rattle.graph.specs.declared.locate.Spot.{Spot}

@@ -38,7 +38,16 @@ pub numbers : {a b : Refusal} → a ≡ b → a .number ≡ b .number
 numbers e = ap (λ (r : Refusal). r .number) e
 
 module _ (z : ℕ) (c l : List ℕ) where
-  -- m is what the list's check said
+  -- what was opened: m is what the list's check said, q the pass's refusal
+  pub opened-list : (m : Refusal) → m ≡ refusal (listRule z (length c) l) (listPlace z (length c) l) → 0 < m .number → m ≡ opened z c l
+  unfolding opened
+  opened-list m e h = sym (rw (← e) (else-first m _ h))
+
+  pub opened-pass : (m q : Refusal) → m ≡ refusal (listRule z (length c) l) (listPlace z (length c) l) → m .number ≤ 0
+      → q ≡ openFrom z c l 0 (recordsOf z l) → q ≡ opened z c l
+  unfolding opened
+  opened-pass m q e h d = d ∙ sym (rw (← e) (else-next m _ (omega arith)))
+
   module _ (m : Refusal) (e : m ≡ refusal (listRule z (length c) l) (listPlace z (length c) l)) where
     pub list-listed : m .number ≤ 0 → Listed z c l (recordsOf z l)
     list-listed h =
@@ -47,19 +56,17 @@ module _ (z : ℕ) (c l : List ℕ) where
         record { few = s .1; files = s .2; most = s .0 }
 
     pub view-refused : (g : ℕ) (s : Mark) → 0 < m .number → Viewed z c l g (record { refusal = m; commits = 0; mark = s })
-    unfolding opened
     view-refused g s h =
         record {
-          refusal = sym (rw (← e) (else-first m (openFrom z c l 0 (recordsOf z l)) h));
+          refusal = opened-list m e h;
           commits = λ y. absurd (omega arith);
           kept = λ y. absurd (omega arith);
         }
 
     pub view-passed : (g n : ℕ) (r : Survey) → m .number ≤ 0 → n ≡ recordsOf z l → Surveyed z c l n g r → Viewed z c l g r
-    unfolding opened
     view-passed g n r h q s =
         record {
-          refusal = s .refusal ∙ rw q (sym (rw (← e) (else-next m (openFrom z c l 0 (recordsOf z l)) (omega arith))));
+          refusal = opened-pass m (r .refusal) e h (s .refusal ∙ ap (openFrom z c l 0) q);
           commits = λ y. s .commits y ∙ ap (before (countAt z c l)) q;
           kept = λ y. rw q at (s .kept y);
         }

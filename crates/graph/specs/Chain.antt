@@ -10,8 +10,6 @@ use Rattle.types.specs.declared.refusal.Refusal.{Refusal}
 use Rattle.words.specs.Sums.{before, whichOf, withinOf}
 use Rattle.list.specs.List.{recordsOf, lengthAt, listRule, listPlace}
 use Rattle.file.specs.Table.{opening}
-use Rattle.access.specs.declared.Asking.{Asking}
-use Rattle.access.specs.declared.Asking.the-variants.{Fine, Refused as Met}
 use Rattle.graph.specs.declared.init.Opening.{Opening as Chained}
 use Rattle.graph.specs.declared.init.Opening.the-variants.{Open as Whole, Refused as Not}
 use Rattle.file.specs.declared.Opening.{Opening}
@@ -21,10 +19,14 @@ use Rattle.file.specs.declared.Opening.the-variants.{Open, Refused}
 abbrev pub placed : ℕ → Refusal → Refusal
 placed k r = record { number = r .number; file = k; place = r .place }
 
--- what one file has, once it is opened; nothing where it is refused
+-- how many commits one file has, once it is opened, and how wide its ids are; nothing where it is refused
 unfoldable pub commitsOf : Opening → ℕ
 commitsOf (Open f) = f .commits
 commitsOf (Refused r) = 0
+
+unfoldable pub widthIn : Opening → ℕ
+widthIn (Open f) = f .width
+widthIn (Refused r) = 0
 
 -- a refusal with a number, else what comes after
 unfoldable pub pickRefusal : Bool → Refusal → Refusal → Refusal
@@ -79,20 +81,13 @@ module _ (z : ℕ) (c l : List ℕ) where
   unfoldable pub asked : ℕ → Refusal
   asked g = orElse opened (pickRefusal (leb commitsIn g) (refusal 40 0) opened)
 
--- what opening a chain answers, and which refusal a question for a part meets
+-- what opening a chain answers
 unfoldable pub pickOpening : Bool → Chained → Chained → Chained
 pickOpening true a b = a
 pickOpening false a b = b
 
 unfoldable pub openingOf : ℕ → List ℕ → List ℕ → Chained
 openingOf z c l = pickOpening (ltb 0 (opened z c l .number)) (Not (opened z c l)) (Whole (commitsIn z c l))
-
-unfoldable pub pickAsking : Bool → Asking → Asking → Asking
-pickAsking true a b = a
-pickAsking false a b = b
-
-unfoldable pub askingBy : Refusal → Asking
-askingBy r = pickAsking (ltb 0 (r .number)) (Met r) Fine
 
 -- a list that is not refused: n records, whose files lie in the chain
 pub record Listed (z : ℕ) (c l : List ℕ) (n : ℕ) : Type 0 where

@@ -1,5 +1,4 @@
 pub mod Chain
 pub mod Passes
-pub mod Questions
-pub mod Lookups
+pub mod Spots
 pub mod Theorems

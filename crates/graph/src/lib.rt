@@ -1,6 +1,4 @@
 // The chain: files end to end in one lent buffer, named by a lent list.
 pub mod init;
 pub mod locate;
-pub mod lookup;
-pub mod positions;
 mod survey;

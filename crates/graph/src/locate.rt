@@ -7,7 +7,7 @@ use types::refusal::POSITION;
 use types::refusal::Refusal;
 ghost use mathlib.Core.Path.{_≡_};
 ghost use Rattle.graph.specs.Chain.{placed};
-ghost use Rattle.graph.specs.Questions.{located};
+ghost use Rattle.graph.specs.Spots.{located};
 
 // A position's file: its index, where it starts in the chain and how long it is; the position in it; and its record.
 pub struct Spot {

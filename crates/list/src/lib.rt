@@ -1,4 +1,6 @@
 // The list that names a chain's files, in records of one size `z`: length (4), name kind (4), claimed hash (20), four zero bytes.
+use order::same;
+use order::zero;
 use types::refusal;
 use types::refusal::LIST_RECORD;
 use types::refusal::LIST_SIZE;
@@ -6,8 +8,6 @@ use types::refusal::LIST_SUM;
 use types::refusal::Refusal;
 use types::refusal::TOO_LARGE;
 use words::big::be32;
-use words::order::same;
-use words::order::zero;
 use words::part::part;
 ghost use mathlib.Core.Path.{_≡_};
 ghost use Prim.Native.Nat.{_+_, _*_, _≤_, _<_};

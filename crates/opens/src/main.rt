@@ -10,7 +10,6 @@ use cases::record::room;
 use file::File;
 use file::Opening;
 use file::init::open;
-use file::name;
 use types::refusal::Refusal;
 
 fn print_file(f: File) {

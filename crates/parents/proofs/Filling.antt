@@ -12,10 +12,11 @@ use borrow.Author.Tests.{lt-ltb, le-ltb}
 use Rattle.types.specs.Refusals.{refusal}
 use Rattle.types.specs.declared.refusal.Refusal.{Refusal}
 use Rattle.chunk.specs.Index.{absent}
-use Rattle.file.specs.Fits.{edgePart}
+use Rattle.fit.specs.Fits.{edgePart}
 use Rattle.file.specs.declared.File.{File}
 use Rattle.commit.specs.Commits.{rowOf}
-use Rattle.parents.specs.Walks.{Walked, ends, parent, positions, walkOf, totalOf}
+use Rattle.steps.specs.Walks.{Walked, ends, parent, positions}
+use Rattle.parents.specs.Walks.{walkOf, totalOf}
 use Rattle.parents.specs.Lists.{overlay, pickTotal, fitTotal, listOf, heldBy, heldOf}
 use Rattle.parents.specs.declared.Total.{Total}
 use Rattle.parents.specs.declared.Total.the-variants.{Count as Whole, Refused as Short}

@@ -6,7 +6,8 @@ use lib.ListN.{length}
 use lib.Dec.{ltb}
 use Rattle.types.specs.Refusals.{refusal}
 use Rattle.file.specs.declared.File.{File}
-use Rattle.parents.specs.Walks.{positions, walkOf, totalOf}
+use Rattle.steps.specs.Walks.{positions}
+use Rattle.parents.specs.Walks.{walkOf, totalOf}
 use Rattle.parents.specs.declared.Total.{Total}
 use Rattle.parents.specs.declared.Total.the-variants.{Count as Whole, Refused as Short}
 

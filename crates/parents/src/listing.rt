@@ -1,22 +1,22 @@
 // The parent list: a commit's parents written into a lent list.
-use super::Counted;
-use super::Met;
-use super::Phase;
 use super::Total;
-use super::count_in;
 use super::edge;
 use super::present;
-use super::step_in;
 use commit::Asked;
 use commit::ParentEdge;
 use commit::commit_at;
 use file::File;
+use steps::Counted;
+use steps::Met;
+use steps::Phase;
+use steps::count_in;
+use steps::step_in;
 use types::file::Position;
 use types::refusal;
 use types::refusal::LIST_FULL;
 ghost use mathlib.Core.Path.{_≡_};
 ghost use lib.ListN.{length};
-ghost use Rattle.parents.specs.Walks.{firstWalk, positions};
+ghost use Rattle.steps.specs.Walks.{firstWalk, positions};
 ghost use Rattle.parents.specs.Lists.{overlay, listOf, heldOf};
 
 // Writes the parents of a commit with these two parent words over the front of `out`, as many as it has room for.

@@ -3,8 +3,8 @@ use mathlib.Core.List.{[], _∷_, _++_}
 use mathlib.Core.Path.{_≡_, refl}
 use lib.ListN.{replicate}
 use Rattle.text.specs.Text.{pickList, digits, dec}
-use Rattle.verify.specs.declared.Length.the-variants.{Steps, Cyclic}
-use Rattle.verify.specs.declared.Verdict.the-variants.{Accepted, Refused}
+use Rattle.audit.specs.declared.Length.the-variants.{Steps, Cyclic}
+use Rattle.audit.specs.declared.Verdict.the-variants.{Accepted, Refused}
 use Rattle.report.specs.Output.{ascii, others, line, lengthWord, keyWord, countLine, countLines, answerLines, readable, outputOf}
 
 -- a root, its child, and a merge of both

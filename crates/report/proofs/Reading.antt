@@ -11,8 +11,8 @@ use lib.ListN.{length, take, drop, length-drop}
 use lib.Seq.{take-all, length-take-le}
 use Rattle.words.proofs.Numbers.{le-or-lt}
 use Rattle.text.specs.Text.{pickList}
-use Rattle.verify.specs.declared.Verification.{Verification}
-use Rattle.verify.specs.Rules.{verification}
+use Rattle.audit.specs.declared.Verification.{Verification}
+use Rattle.audit.specs.Rules.{verification}
 use Rattle.report.specs.Output.{line, answerLines, sizeOf, chainOf, readable, verified, outputOf}
 use Rattle.report.specs.Puts.{Puts}
 use Rattle.report.proofs.Putting.{start-size, start-holds}

@@ -8,12 +8,12 @@ use lib.Dec.{ltb, leb, eqb}
 use lib.ListN.{length, getD, take, drop}
 use Rattle.words.specs.Big.{be}
 use Rattle.text.specs.Text.{pickList, dec}
-use Rattle.verify.specs.declared.Length.{Length}
-use Rattle.verify.specs.declared.Length.the-variants.{Steps, Cyclic}
-use Rattle.verify.specs.declared.Verdict.{Verdict}
-use Rattle.verify.specs.declared.Verdict.the-variants.{Accepted, Refused}
-use Rattle.verify.specs.declared.Verification.{Verification}
-use Rattle.verify.specs.Rules.{verification}
+use Rattle.audit.specs.declared.Length.{Length}
+use Rattle.audit.specs.declared.Length.the-variants.{Steps, Cyclic}
+use Rattle.audit.specs.declared.Verdict.{Verdict}
+use Rattle.audit.specs.declared.Verdict.the-variants.{Accepted, Refused}
+use Rattle.audit.specs.declared.Verification.{Verification}
+use Rattle.audit.specs.Rules.{verification}
 
 -- ── words and lines ──
 

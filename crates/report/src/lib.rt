@@ -1,12 +1,12 @@
 // What the program prints for its whole input: the lines of the verification, or that the input cannot be read.
 mod lines;
 
+use audit::Verdict;
+use audit::Verification;
 use lines::accepted;
 use lines::count_lines;
 use lines::refused;
 use lines::word;
-use verify::Verdict;
-use verify::Verification;
 use verify::verify;
 use words::big::be32;
 ghost use mathlib.Core.Path.{_≡_};

@@ -1,8 +1,8 @@
 // The lines of an answer, each written at a place of a buffer that has room for it.
+use audit::Length;
 use text::number;
 use text::put;
 use types::refusal::Refusal;
-use verify::Length;
 ghost use mathlib.Core.List.{[], _∷_, _++_};
 ghost use Prim.Native.Nat.{_+_, _≤_};
 ghost use lib.ListN.{length};

@@ -10,14 +10,14 @@ use lib.ListN.{length, getD}
 use denote.Ref.{RefT}
 use borrow.Author.Tests.{lt-ltb, le-ltb, le-leb, lt-leb, ltb-true, ltb-false, leb-false, ne-eqb, eqb-true, eqb-false}
 use Rattle.words.specs.Big.{be, number}
-use Rattle.words.specs.Order.{order}
-use Rattle.words.specs.declared.order.Order.{Order}
-use Rattle.words.specs.declared.order.Order.the-variants.{Less, Equal, Greater}
+use Rattle.order.specs.Order.{order}
+use Rattle.order.specs.declared.Order.{Order}
+use Rattle.order.specs.declared.Order.the-variants.{Less, Equal, Greater}
 use Rattle.words.specs.Part.{PartOf, RecordsOf}
-use Rattle.words.proofs.Ordered.{Says, told}
+use Rattle.order.proofs.Ordered.{Says, told}
 use Rattle.words.proofs.Parts.{run-in, part-length, part-number}
 use Rattle.words.proofs.Rows.{hit, miss, pass, eq-not, ne-not, and-first, and-both, and-second}
-use Rattle.file.specs.Fits.{known}
+use Rattle.fit.specs.Fits.{known}
 use Rattle.access.specs.Lookup.{keyOf, lower, upper}
 use Rattle.rules.specs.Rules.{_or_, idRule, bucketRule, treeRule, entryRule, entryIn}
 use Rattle.rules.specs.Facts.{Entry}

@@ -1,6 +1,10 @@
 // Refusals 62 to 67: the trailer, the name, and a commit's entry. Each is a number, or 0 for none.
 use list::claims;
 use list::kind_at;
+use order::Order;
+use order::compare;
+use order::same;
+use order::zero;
 use sha1::sha1;
 use types::refusal::CHECKSUM;
 use types::refusal::ID_BUCKET;
@@ -10,10 +14,6 @@ use types::refusal::NAME;
 use types::refusal::POSITION;
 use types::refusal::TREE_ZERO;
 use words::big::be32;
-use words::order::Order;
-use words::order::compare;
-use words::order::same;
-use words::order::zero;
 use words::part::part;
 ghost use mathlib.Core.Path.{_≡_};
 ghost use mathlib.Core.Bool.{not};

@@ -1,4 +1,1 @@
-pub mod Message
 pub mod Fips
-pub mod Feed
-pub mod State

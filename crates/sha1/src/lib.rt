@@ -1,8 +1,4 @@
-// SHA-1, as FIPS 180-4 defines it. specs/Fips.antt is the standard, with that of the crate `block` for one block; each function here is equal
-// to a definition there.
-mod fields;
-pub mod hasher;
-
+// SHA-1, as FIPS 180-4 defines it: the digest of a slice. specs/Fips.antt is the standard, with those of the crates `hasher` and `block`.
 use hasher::Hasher;
 ghost use mathlib.Core.Path.{_≡_};
 ghost use Rattle.sha1.specs.Fips.{sha1Of};

@@ -12,19 +12,19 @@ use Rattle.words.specs.Part.{RecordsOf}
 use Rattle.words.proofs.Parts.{length-part, records-in, run-in}
 use Rattle.words.proofs.Rows.{miss}
 use Rattle.chunk.specs.Index.{absent, startOf, sizeOf}
-use Rattle.file.specs.Facts.{Opened}
+use Rattle.fit.specs.Facts.{Opened}
 use Rattle.file.specs.declared.File.{File}
 use Rattle.ancestry.specs.Graph.{highestBelow}
 use Rattle.ancestry.specs.Counts.{keyOf, countsOf, lowestBelow}
 use Rattle.ancestry.proofs.Counts.{counts-none}
 use Rattle.ancestry.proofs.Scans.{Sofar, sofar-begins, sofar-next, sofar-stops, sofar-ends, highest-adds, lowest-begins, lowest-adds, counts-adds, counts-small}
-use Rattle.file.proofs.Fitting.{run-within}
+use Rattle.fit.proofs.Fitting.{run-within}
 use Rattle.commit.specs.Commits.{commitOf, commitIn, rowRule, refuseCommit}
-use Rattle.parents.specs.Walks.{endOf, countOf}
+use Rattle.steps.specs.Walks.{endOf, countOf}
 use Rattle.commit.specs.declared.Commit.{Commit}
-use Rattle.parents.specs.declared.Counted.{Counted}
-use Rattle.parents.specs.declared.Counted.the-variants.{Count, Refused as Stopped}
-use Rattle.parents.proofs.Walking.{count-all, count-short}
+use Rattle.steps.specs.declared.Counted.{Counted}
+use Rattle.steps.specs.declared.Counted.the-variants.{Count, Refused as Stopped}
+use Rattle.steps.proofs.Walking.{count-all, count-short}
 use Rattle.commit.specs.declared.Asked.{Asked}
 use Rattle.commit.specs.declared.Asked.the-variants.{Commit as Is, Refused}
 use Rattle.types.specs.declared.refusal.Refusal.{Refusal}

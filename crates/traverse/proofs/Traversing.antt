@@ -12,16 +12,16 @@ use Rattle.types.specs.declared.refusal.Refusal.{Refusal}
 use Rattle.words.specs.First.{_if_else_}
 use Rattle.words.proofs.Rows.{hit, miss, pass, eq-not, ne-not}
 use Rattle.list.specs.List.{listRule, listPlace}
-use Rattle.file.specs.Fits.{known, fitRule, Fitted}
-use Rattle.file.specs.Facts.{Opened}
+use Rattle.fit.specs.Fits.{known, fitRule, Fitted}
+use Rattle.fit.specs.Facts.{Opened}
 use Rattle.file.specs.Table.{opening}
 use Rattle.file.specs.declared.File.{File}
 use Rattle.file.specs.declared.Opening.{Opening}
 use Rattle.file.specs.declared.Opening.the-variants.{Open, Refused}
-use Rattle.file.proofs.Opens.{opened}
-use Rattle.file.proofs.Fitting.{fitted}
+use Rattle.fit.proofs.Opens.{opened}
+use Rattle.fit.proofs.Fitting.{fitted}
 use Rattle.rules.specs.Rules.{sumRule, nameRule, sumIn, nameIn}
-use Rattle.traverse.specs.Traversal.{partsOf, summaryOf, refusedBy, refuse, traverseBy, oneRule, onePlace, traversal, checksumRule}
+use Rattle.traverse.specs.Traversal.{partsOf, summaryOf, refusedBy, refuse, traverseBy, oneRule, onePlace, traversal}
 use Rattle.traverse.specs.Scans.{ScannedAs}
 use Rattle.traverse.specs.declared.commits.Scanned.{Scanned}
 use Rattle.traverse.specs.declared.Verdict.the-variants.{Accepted}
@@ -135,25 +135,3 @@ module _ (z : ℕ) (c l : List ℕ) (m : Refusal) (e : m ≡ refusal (oneRule z 
 
     pub traversal-open : (f : File) → x ≡ Open f → traverseBy z c l (Open f) ≡ traversal z c l
     traversal-open f g = ap (traverseBy z c l) (sym g ∙ d) ∙ past
-
--- ── the trailer alone ──
-
-module _ (p : List ℕ) (f : File) (m : ℕ) (e : m ≡ fitRule p f) where
-  pub checksum-misfit : 0 < m → m ≡ checksumRule p f
-  unfolding checksumRule
-  checksum-misfit h = e ∙ or-hit _ _ (omega arith)
-
-  module _ (h : m ≤ 0) where
-    fit : fitRule p f ≡ 0
-    fit = omega arith
-
-    width-known : known (f .width) ≡ true
-    unfolding fitRule
-    width-known = not-false _ (pass 40 _ _ (lit< tt) fit .0)
-
-    pub trailer-room : f .width ≤ length p
-    trailer-room = let k : Fitted p f = fitted p f fit in omega (arith, k .fan, k .narrow)
-
-    pub checksum-sum : (k : ℕ) → k ≡ sumIn (f .width) p → k ≡ checksumRule p f
-    unfolding checksumRule
-    checksum-sum k d = d ∙ sum-plain (f .width) p width-known trailer-room ∙ sym (or-miss _ _ fit)

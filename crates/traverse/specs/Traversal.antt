@@ -11,13 +11,13 @@ use Rattle.ancestry.specs.Graph.{highestBelow}
 use Rattle.ancestry.specs.Counts.{keyOf, countsOf, lowestBelow}
 use Rattle.list.specs.List.{listRule, listPlace}
 use Rattle.chunk.specs.Index.{absent}
-use Rattle.file.specs.Fits.{fitRule, fanPart, idsPart, rowsPart, edgePart}
+use Rattle.fit.specs.Fits.{fitRule, fanPart, idsPart, rowsPart, edgePart}
 use Rattle.file.specs.Table.{opening}
 use Rattle.file.specs.declared.File.{File}
 use Rattle.file.specs.declared.Opening.{Opening}
 use Rattle.file.specs.declared.Opening.the-variants.{Open, Refused}
 use Rattle.commit.specs.Commits.{commitOf}
-use Rattle.parents.specs.Walks.{Walked, positions, endOf, firstWalk}
+use Rattle.steps.specs.Walks.{Walked, positions, endOf, firstWalk}
 use Rattle.rules.specs.Rules.{_or_, sumRule, nameRule, entryRule}
 use Rattle.traverse.specs.declared.Summary.{Summary}
 use Rattle.traverse.specs.declared.Verdict.the-variants.{Accepted, Refused as Not}
@@ -101,7 +101,3 @@ onePlace z n l = listPlace z n l if eqb (oneRule z n l) 31 else 0
 
 unfoldable pub traversal : ℕ → List ℕ → List ℕ → Traversal
 traversal z c l = refuse (oneRule z (length c) l) (onePlace z (length c) l) (traverseBy z c l (opening c))
-
--- the trailer alone, of a file's record: 40 where it does not fit the bytes, then 62
-unfoldable pub checksumRule : List ℕ → File → ℕ
-checksumRule p f = fitRule p f or sumRule (f .width) p

@@ -1,11 +1,9 @@
 // One file verified: its trailer, its name, and each of its commits.
 pub mod commits;
 
-use access::Asking;
 use commits::commits;
 use file::File;
 use file::Opening;
-use file::fit::fit;
 use file::init::open;
 use list::check;
 use rules::name_in;
@@ -19,11 +17,9 @@ ghost use mathlib.Core.Path.{_≡_};
 ghost use Prim.Native.Nat.{_-_};
 ghost use lib.ListN.{length};
 ghost use Rattle.types.specs.Refusals.{refusal};
-ghost use Rattle.file.specs.Fits.{fitRule, AskedPart};
 ghost use Rattle.file.specs.Table.{opening};
 ghost use Rattle.file.specs.declared.Opening.the-variants.{Open};
-ghost use Rattle.access.specs.Lookup.{asking};
-ghost use Rattle.traverse.specs.Traversal.{oneRule, onePlace, refusedBy, traverseBy, traversal, checksumRule};
+ghost use Rattle.traverse.specs.Traversal.{oneRule, onePlace, refusedBy, traverseBy, traversal};
 
 // What the commits of a file add up to.
 pub struct Summary {
@@ -42,31 +38,6 @@ pub enum Verdict {
 pub struct Traversal {
     pub verdict: Verdict,
     pub counts: [u32; 66],
-}
-
-// The trailer: the part of `s` that stores it, itself and no copy. Empty where the record does not fit.
-pub fn checksum<'a>(s: &'a [u8], f: File) -> &'a [u8]
-    ensures { λ r. ⌜ AskedPart (s .entry) (fitRule (now (s .entry)) f) (length (now (s .entry)) - f .width) (f .width) r ⌝ }
-{
-    if 0 < fit(s, f) {
-        return &s[0..0];
-    }
-    part(s, s.len() - f.width, f.width, 1)
-}
-
-// Which refusal the trailer meets: 62, or 40 where the record does not fit.
-pub fn verify_checksum(s: &[u8], f: File) -> Asking
-    ensures { λ r. ⌜ r ≡ asking (checksumRule (now (s .entry)) f) ⌝ }
-{
-    let m = fit(s, f);
-    if 0 < m {
-        return Asking::Refused(refusal::at(m, 0));
-    }
-    let k = sum_in(s, f.width);
-    if 0 < k {
-        return Asking::Refused(refusal::at(k, 0));
-    }
-    Asking::Fine
 }
 
 fn refused(r: Refusal) -> Traversal

@@ -1,7 +1,7 @@
 // Prints SHA-1 digests, one a line: of the published messages, and of every length of a pattern up to 200, whole and in two pieces.
 // What it must print is made by `bash crates/vectors/make > crates/vectors/stdout`.
+use hasher::Hasher;
 use libc::STDOUT_FILENO;
-use sha1::hasher::Hasher;
 use sha1::sha1;
 ghost use mathlib.Core.Path.{_≡_};
 ghost use Prim.Native.Nat.{min};

@@ -15,25 +15,26 @@ use Rattle.words.specs.First.{_if_else_, first}
 use Rattle.words.proofs.Rows.{miss, pass, eq-not}
 use Rattle.words.proofs.Searches.{first-hit, first-none}
 use Rattle.list.specs.List.{recordsOf}
-use Rattle.file.specs.Fits.{fanPart, idsPart, rowsPart}
+use Rattle.fit.specs.Fits.{fanPart, idsPart, rowsPart}
 use Rattle.file.specs.declared.File.{File}
 use Rattle.file.specs.declared.Opening.{Opening}
 use Rattle.file.specs.declared.Opening.the-variants.{Open, Refused as Shut}
-use Rattle.parents.specs.Walks.{Walked, ends, parent, positions, endOf, walkOf}
+use Rattle.steps.specs.Walks.{Walked, ends, parent, positions, endOf}
+use Rattle.parents.specs.Walks.{walkOf}
 use Rattle.rules.specs.Rules.{sumRule}
 use Rattle.rules.proofs.Entries.{or-miss, or-none, entry-sound, entry-whole}
 use Rattle.rules.proofs.Trailers.{sum-sound, sum-whole, name-sound, name-whole}
-use Rattle.graph.specs.Chain.{commitsOf, partAt, openAt, countAt, firstAt, commitsIn, openFrom, opened, Listed}
-use Rattle.graph.specs.Questions.{widthIn}
+use Rattle.graph.specs.Chain.{commitsOf, widthIn, partAt, openAt, countAt, firstAt, commitsIn, openFrom, opened, Listed}
 use Rattle.graph.proofs.Passing.{Along, along-begins, along-refused, along-next}
 use Rattle.graph.proofs.Views.{numbers, opened-halves, opened-listed}
 use Rattle.walk.specs.Lists.{walkIn}
-use Rattle.verify.specs.Files.{basesIn, baseIn, genIn, entryAt, genAt}
-use Rattle.verify.specs.Rules.{walkRule, alien, badBase, baseRule, headRule, genRule, commitRule, bad, badCommit, commitRules, refuse, pickVerified, accepted, refusedBy, verifyFrom, verification}
+use Rattle.audit.specs.Files.{basesIn, baseIn, genIn, entryAt, genAt}
+use Rattle.audit.specs.Rules.{walkRule, alien, badBase, baseRule, headRule, genRule, commitRule, bad, badCommit, commitRules, refuse, pickVerified, accepted, refusedBy, verifyFrom, verification}
+use Rattle.audit.proofs.Filing.{refuse-none}
 use Rattle.verify.specs.Facts.{SoundCommit, SoundFile, Sound}
-use Rattle.verify.specs.declared.Summary.{Summary}
-use Rattle.verify.specs.declared.Verdict.the-variants.{Accepted, Refused}
-use Rattle.verify.specs.declared.Verification.{Verification}
+use Rattle.audit.specs.declared.Summary.{Summary}
+use Rattle.audit.specs.declared.Verdict.the-variants.{Accepted, Refused}
+use Rattle.audit.specs.declared.Verification.{Verification}
 
 -- ── a search finds none exactly if the test holds at none ──
 
@@ -88,10 +89,6 @@ refuse-accepted : (n i place : ℕ) (rest : Verification) (s : Summary) → refu
 unfolding refuse
 refuse-accepted zero i place rest s e = (refl, e)
 refuse-accepted (suc n) i place rest s e = let y : _≡_ {A = ℕ} 0 1 = cc in absurd (omega arith)
-
-pub refuse-none : (n i place : ℕ) (rest : Verification) → n ≡ 0 → refuse n i place rest ≡ rest
-unfolding refuse
-refuse-none n i place rest e = rw e
 
 -- ── the opening: each file opens, and its commits are few ──
 

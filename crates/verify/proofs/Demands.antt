@@ -13,25 +13,26 @@ use Rattle.ancestry.specs.Counts.{countsOf}
 use Rattle.ancestry.proofs.Counts.{key-below, counts-length, counts-at, counts-sum}
 use Rattle.ancestry.proofs.Graph.{agrees, highest-few}
 use Rattle.list.specs.List.{recordsOf}
-use Rattle.file.specs.Fits.{idsPart}
+use Rattle.fit.specs.Fits.{idsPart}
 use Rattle.file.specs.declared.File.{File}
 use Rattle.file.specs.declared.Opening.the-variants.{Open}
 use Rattle.access.specs.Lookup.{keyOf, leading, Ordered}
 use Rattle.commit.specs.Commits.{rowOf}
-use Rattle.parents.specs.Walks.{positions, walkOf}
+use Rattle.steps.specs.Walks.{positions}
+use Rattle.parents.specs.Walks.{walkOf}
 use Rattle.graph.specs.Chain.{partAt, openAt, countAt, firstAt, commitsIn, fileOf, posOf}
-use Rattle.graph.specs.Lookups.{lookupOf}
-use Rattle.graph.specs.Theorems.{Sorted, Exact}
-use Rattle.graph.proofs.Exactly.{exact}
+use Rattle.ask.specs.Lookups.{lookupOf}
+use Rattle.ask.specs.Theorems.{Sorted, Exact}
+use Rattle.ask.proofs.Exactly.{exact}
 use Rattle.graph.proofs.Standing.{stands}
 use Rattle.walk.specs.Lists.{walkIn, walkedAt, parentsAt}
-use Rattle.verify.specs.Files.{genIn, genAt, keyAt}
-use Rattle.verify.specs.Rules.{lengthBy, accepted, verification}
+use Rattle.audit.specs.Files.{genIn, genAt, keyAt}
+use Rattle.audit.specs.Rules.{lengthBy, accepted, verification}
 use Rattle.verify.specs.Facts.{SoundCommit, SoundFile, Sound, lengthIn, Counted, Claimed, ClaimsBy, Claims}
-use Rattle.verify.specs.declared.Length.the-variants.{Steps}
-use Rattle.verify.specs.declared.Verdict.{Verdict}
-use Rattle.verify.specs.declared.Verdict.the-variants.{Accepted, Refused}
-use Rattle.verify.specs.declared.Verification.{Verification}
+use Rattle.audit.specs.declared.Length.the-variants.{Steps}
+use Rattle.audit.specs.declared.Verdict.{Verdict}
+use Rattle.audit.specs.declared.Verdict.the-variants.{Accepted, Refused}
+use Rattle.audit.specs.declared.Verification.{Verification}
 use Rattle.verify.proofs.Acceptance.{commits-few, sound-of, accepted-of, refused-not}
 
 -- the length that is given is the length

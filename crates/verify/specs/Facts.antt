@@ -9,22 +9,23 @@ use Rattle.words.specs.Sums.{before}
 use Rattle.ancestry.specs.Graph.{rightGen, Agrees}
 use Rattle.ancestry.specs.Counts.{countUp}
 use Rattle.list.specs.List.{recordsOf}
-use Rattle.file.specs.Fits.{fanPart, idsPart, rowsPart, basePart}
+use Rattle.fit.specs.Fits.{fanPart, idsPart, rowsPart, basePart}
 use Rattle.file.specs.declared.File.{File}
 use Rattle.file.specs.declared.Opening.the-variants.{Open}
 use Rattle.commit.specs.Commits.{rowOf}
-use Rattle.parents.specs.Walks.{positions, endOf, walkOf}
+use Rattle.steps.specs.Walks.{positions, endOf}
+use Rattle.parents.specs.Walks.{walkOf}
 use Rattle.rules.specs.Facts.{Summed, Named, Entry}
 use Rattle.graph.specs.Chain.{partAt, openAt, firstAt, commitsIn, opened}
-use Rattle.graph.specs.Lookups.{lookupOf}
-use Rattle.graph.specs.Theorems.{Exact}
+use Rattle.ask.specs.Lookups.{lookupOf}
+use Rattle.ask.specs.Theorems.{Exact}
 use Rattle.walk.specs.Lists.{parentsAt}
-use Rattle.verify.specs.Files.{trailerAt, genAt, keyAt}
-use Rattle.verify.specs.declared.Length.{Length}
-use Rattle.verify.specs.declared.Length.the-variants.{Steps, Cyclic}
-use Rattle.verify.specs.declared.Verdict.{Verdict}
-use Rattle.verify.specs.declared.Verdict.the-variants.{Accepted, Refused}
-use Rattle.verify.specs.declared.Verification.{Verification}
+use Rattle.audit.specs.Files.{trailerAt, genAt, keyAt}
+use Rattle.audit.specs.declared.Length.{Length}
+use Rattle.audit.specs.declared.Length.the-variants.{Steps, Cyclic}
+use Rattle.audit.specs.declared.Verdict.{Verdict}
+use Rattle.audit.specs.declared.Verdict.the-variants.{Accepted, Refused}
+use Rattle.audit.specs.declared.Verification.{Verification}
 
 -- commit k of a file of bytes p with the record f; the chain has `limit` commits up to the file's end, and gen is the generation at a position
 pub record SoundCommit (gen : ℕ → ℕ) (limit : ℕ) (p : List ℕ) (f : File) (k : ℕ) : Type 0 where

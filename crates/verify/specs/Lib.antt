@@ -1,4 +1,1 @@
-pub mod Files
-pub mod Rules
-pub mod Scans
 pub mod Facts

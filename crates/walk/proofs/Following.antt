@@ -10,22 +10,24 @@ use borrow.Author.Tests.{le-ltb, ltb-true}
 use Rattle.types.specs.declared.refusal.Refusal.{Refusal}
 use Rattle.words.proofs.Numbers.{le-or-lt}
 use Rattle.chunk.specs.Index.{absent}
-use Rattle.file.specs.Fits.{askRule, edgePart}
+use Rattle.fit.specs.Fits.{askRule, edgePart}
 use Rattle.file.specs.declared.File.{File}
 use Rattle.file.specs.declared.Opening.{Opening}
 use Rattle.file.specs.declared.Opening.the-variants.{Open, Refused}
-use Rattle.file.proofs.Opens.{opened as file-opened, refused-named}
-use Rattle.file.proofs.Fitting.{opened-fits, asked-plain}
+use Rattle.fit.proofs.Opens.{opened as file-opened, refused-named}
+use Rattle.fit.proofs.Fitting.{opened-fits, asked-plain}
 use Rattle.commit.specs.Commits.{rowOf}
-use Rattle.parents.specs.Walks.{nextOf, Walked, ends as over, parent, restOf, walkOf, positions, endOf, answerOf}
+use Rattle.steps.specs.Walks.{nextOf, Walked, ends as over, parent, restOf, positions, endOf}
+use Rattle.parents.specs.Walks.{walkOf, answerOf}
 use Rattle.parents.specs.declared.Answer.{Answer}
 use Rattle.parents.specs.declared.Answer.the-variants.{Parent, Refused as Not, End}
-use Rattle.parents.specs.declared.Met.{Met}
-use Rattle.parents.specs.declared.Met.the-variants.{Parent as Meets, Refused as MeetsNo, End as MeetsEnd}
-use Rattle.parents.specs.declared.Next.{Next}
-use Rattle.parents.specs.declared.Phase.{Phase}
-use Rattle.parents.specs.declared.Phase.the-variants.{First}
-use Rattle.parents.proofs.Walking.{followMet, rest-follow, step-plain, Told, step-told}
+use Rattle.steps.specs.declared.Met.{Met}
+use Rattle.steps.specs.declared.Met.the-variants.{Parent as Meets, Refused as MeetsNo, End as MeetsEnd}
+use Rattle.steps.specs.declared.Next.{Next}
+use Rattle.steps.specs.declared.Phase.{Phase}
+use Rattle.steps.specs.declared.Phase.the-variants.{First}
+use Rattle.steps.proofs.Walking.{followMet, rest-follow}
+use Rattle.parents.proofs.Walking.{step-plain, Told, step-told}
 use Rattle.graph.specs.Chain.{commitsOf, partAt, openAt, countAt, fileOf, posOf, asked}
 use Rattle.walk.specs.Lists.{walkIn, walkedAt}
 use Rattle.walk.specs.Walks.{answerIn, refused, stepBy, pickStep, stepOf}

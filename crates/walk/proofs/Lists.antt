@@ -8,12 +8,13 @@ use denote.Ref.{RefT}
 use borrow.Author.Tests.{lt-ltb, le-ltb}
 use Rattle.types.specs.declared.refusal.Refusal.{Refusal}
 use Rattle.words.specs.Part.{RecordsOf}
-use Rattle.parents.specs.Walks.{positions, walkOf}
+use Rattle.steps.specs.Walks.{positions}
+use Rattle.parents.specs.Walks.{walkOf}
 use Rattle.parents.specs.Lists.{pickTotal, heldBy, listOf as fileList, heldOf as fileHeld}
 use Rattle.parents.specs.declared.Total.{Total}
 use Rattle.parents.specs.declared.Total.the-variants.{Count as Whole, Refused as Short}
 use Rattle.graph.specs.Chain.{asked}
-use Rattle.graph.specs.Questions.{located}
+use Rattle.graph.specs.Spots.{located}
 use Rattle.graph.specs.Theorems.{Spotted, FileOf}
 use Rattle.graph.specs.declared.locate.Located.the-variants.{At, Refused as Nowhere}
 use Rattle.graph.specs.declared.locate.Spot.{Spot}

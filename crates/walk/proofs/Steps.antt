@@ -11,7 +11,7 @@ use Rattle.parents.specs.Walks.{stepOf as fileStep}
 use Rattle.parents.specs.declared.Step.{Step as FileStep}
 use Rattle.parents.specs.declared.Answer.{Answer}
 use Rattle.graph.specs.Chain.{asked}
-use Rattle.graph.specs.Questions.{located}
+use Rattle.graph.specs.Spots.{located}
 use Rattle.graph.specs.declared.locate.Located.the-variants.{At, Refused as Nowhere}
 use Rattle.graph.specs.declared.locate.Spot.{Spot}
 use Rattle.graph.proofs.Spots.{spotted, unspotted, file-cut}

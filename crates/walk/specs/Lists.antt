@@ -5,7 +5,8 @@ use lib.Dec.{ltb}
 use lib.ListN.{length}
 use Rattle.file.specs.declared.Opening.{Opening}
 use Rattle.file.specs.declared.Opening.the-variants.{Open, Refused}
-use Rattle.parents.specs.Walks.{Walked, ends, positions, walkOf}
+use Rattle.steps.specs.Walks.{Walked, ends, positions}
+use Rattle.parents.specs.Walks.{walkOf}
 use Rattle.parents.specs.Lists.{pickTotal, heldBy, listOf as fileList}
 use Rattle.parents.specs.declared.Total.{Total}
 use Rattle.parents.specs.declared.Total.the-variants.{Count as Whole, Refused as Short}

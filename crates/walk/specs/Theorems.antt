@@ -5,14 +5,14 @@ use mathlib.Core.Bool.{not}
 use mathlib.Core.Path.{_≡_}
 use Rattle.types.specs.declared.refusal.Refusal.{Refusal}
 use Rattle.chunk.specs.Index.{absent}
-use Rattle.file.specs.Fits.{edgePart}
+use Rattle.fit.specs.Fits.{edgePart}
 use Rattle.file.specs.declared.File.{File}
 use Rattle.commit.specs.Commits.{rowOf}
-use Rattle.parents.specs.Walks.{Walked, restOf, positions, endOf}
+use Rattle.steps.specs.Walks.{Walked, restOf, positions, endOf}
 use Rattle.parents.specs.declared.Answer.the-variants.{Parent, Refused as Not, End}
-use Rattle.parents.specs.declared.Parent.{Parent as Ancestor}
-use Rattle.parents.specs.declared.Phase.{Phase}
-use Rattle.parents.specs.declared.Phase.the-variants.{First, Exhausted}
+use Rattle.steps.specs.declared.Parent.{Parent as Ancestor}
+use Rattle.steps.specs.declared.Phase.{Phase}
+use Rattle.steps.specs.declared.Phase.the-variants.{First, Exhausted}
 use Rattle.graph.specs.Chain.{partAt, fileOf, posOf}
 use Rattle.walk.specs.Lists.{walkedAt, parentsAt}
 use Rattle.walk.specs.Walks.{stepOf}

@@ -10,8 +10,8 @@ use Rattle.parents.specs.Walks.{stepOf as fileStep}
 use Rattle.parents.specs.declared.Step.{Step as FileStep}
 use Rattle.parents.specs.declared.Answer.{Answer}
 use Rattle.parents.specs.declared.Answer.the-variants.{Parent, Refused as Not, End}
-use Rattle.parents.specs.declared.Phase.{Phase}
-use Rattle.parents.specs.declared.Phase.the-variants.{Exhausted}
+use Rattle.steps.specs.declared.Phase.{Phase}
+use Rattle.steps.specs.declared.Phase.the-variants.{Exhausted}
 use Rattle.graph.specs.Chain.{placed, partAt, openAt, fileOf, posOf, asked}
 use Rattle.walk.specs.declared.Walk.{Walk}
 use Rattle.walk.specs.declared.Step.{Step}

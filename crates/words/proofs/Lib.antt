@@ -1,5 +1,4 @@
 pub mod Numbers
-pub mod Ordered
 pub mod Searches
 pub mod Rows
 pub mod Parts

@@ -1,4 +1,3 @@
-// What every layer above reads with: big-endian numbers, order of runs of bytes, parts of slices.
+// What every layer above reads with: big-endian numbers, parts of slices.
 pub mod big;
-pub mod order;
 pub mod part;

@@ -24,10 +24,8 @@ pub struct Parent {
     pub at: Range<usize>,
 }
 
+/// The phase before the first parent.
 const FIRST: u32 = 0;
-const SECOND: u32 = 1;
-const EDGE: u32 = 2;
-const WORD: usize = 4;
 
 impl<'a> Commit<'a> {
     pub(crate) fn new(graph: &'a Graph, index: usize, pos: Local) -> Result<Commit<'a>, Error> {
@@ -63,6 +61,21 @@ impl<'a> Commit<'a> {
         self.part(ffi::file_tree).0
     }
 
+    /// Where the generation and the time lie in its file.
+    pub fn date_place(&self) -> Range<usize> {
+        let (bytes, record) = self.asked();
+        let part = ffi::file_date(bytes, record, self.pos.0);
+        part.at..part.at + part.size
+    }
+
+    /// What is wrong with this commit by itself: its id, its fan bucket, its tree or its walk; 64 to 67, then 50 to 54.
+    pub fn trouble(&self) -> Option<Error> {
+        let (bytes, record) = self.asked();
+        let entry = ffi::file_entry(bytes, record, self.pos.0).answer().err();
+        let told = entry.or_else(|| ffi::file_count(bytes, record, self.pos.0).answer().err())?;
+        Some(self.graph.refused(shapes::Told { file: self.index as u32, ..told }))
+    }
+
     pub fn generation(&self) -> u32 {
         self.row.generation
     }
@@ -94,7 +107,17 @@ impl<'a> Commit<'a> {
     /// The parents with the bytes that they were read from.
     pub fn iter_places(self) -> impl Iterator<Item = Result<Parent, Error>> + 'a {
         let mut walk = Walk { commit: self, phase: FIRST, edge: 0 };
-        std::iter::from_fn(move || walk.step())
+        std::iter::from_fn(move || {
+            let from = (walk.phase, walk.edge);
+            walk.step().map(|step| step.map(|position| Parent { position, at: self.word(from) }))
+        })
+    }
+
+    /// The four bytes that the step from this phase reads its parent from.
+    fn word(&self, from: (u32, usize)) -> Range<usize> {
+        let (bytes, record) = self.asked();
+        let part = ffi::file_word(bytes, record, self.pos.0, from);
+        part.at..part.at + part.size
     }
 
     pub fn parent1(&self) -> Result<Option<Position>, Error> {
@@ -111,7 +134,7 @@ impl Iterator for Parents<'_> {
     type Item = Result<Position, Error>;
 
     fn next(&mut self) -> Option<Self::Item> {
-        self.walk.step().map(|step| step.map(|parent| parent.position))
+        self.walk.step()
     }
 }
 
@@ -123,32 +146,17 @@ struct Walk<'a> {
 
 impl Walk<'_> {
     /// One step of the proved walk. A refusal is asked again of the chain, so that it has its file and place.
-    fn step(&mut self) -> Option<Result<Parent, Error>> {
+    fn step(&mut self) -> Option<Result<Position, Error>> {
         let Commit { graph, pos, .. } = self.commit;
         let (bytes, record) = self.commit.asked();
         let from = (self.phase, self.edge);
         let step = ffi::file_step(bytes, record, pos.0, from);
         (self.phase, self.edge) = (step.phase, step.edge);
         match step.kind {
-            0 => Some(Ok(Parent { position: Position(step.parent), at: self.commit.word(from) })),
+            0 => Some(Ok(Position(step.parent))),
             1 => Some(Err(graph.refused(ffi::step(graph.lent(), self.commit.graph_position().0, from).told()))),
             _ => None,
         }
-    }
-}
-
-impl Commit<'_> {
-    /// The four bytes that a step from this phase reads: one of the two words behind the tree, or the word of this number in EDGE.
-    /// The exports tell where the tree and EDGE begin; the rest is the layout of document 01, until a step answers the place itself.
-    fn word(&self, (phase, edge): (u32, usize)) -> Range<usize> {
-        let (_, record) = self.asked();
-        let at = match phase {
-            FIRST => self.tree_place().end,
-            SECOND if self.row.second_kind == EDGE => record.edge + WORD * self.row.second as usize,
-            SECOND => self.tree_place().end + WORD,
-            _ => record.edge + WORD * edge,
-        };
-        at..at + WORD
     }
 }
 

@@ -6,9 +6,9 @@ use native.Mathlib.Omega.{arith}
 use lib.ListN.{length, getD}
 use denote.Ref.{now}
 use Rattle.words.specs.Big.{number}
-use Rattle.file.specs.Fits.{fanPart}
+use Rattle.fit.specs.Fits.{fanPart}
 use Rattle.access.specs.Lookup.{keyOf, upper, lower, halving}
-use Rattle.file.proofs.Fitting.{fitted, zero-of}
+use Rattle.fit.proofs.Fitting.{fitted, zero-of}
 use Rattle.access.proofs.Stores.{both}
 use Rattle.access.proofs.Looks.{look-misfit, look-width, look-out, look-search}
 use borrow.Author.Needs.{needs}

@@ -2,7 +2,7 @@
 use mathlib.Core.Path.{ap, _∙_}
 use denote.Ref.{now}
 use Rattle.commit.specs.declared.Asked.the-variants.{Commit as Is, Refused}
-use Rattle.file.proofs.Fitting.{answered}
+use Rattle.fit.proofs.Fitting.{answered}
 use Rattle.commit.proofs.Words.{commit-misfit, commit-plain}
 use borrow.Author.Needs.{needs}
 use Rattle.commit.proofs.commit_at.Statement.{statement}

@@ -5,7 +5,7 @@ use native.Mathlib.Omega.{arith}
 use lib.ListN.{length}
 use denote.Ref.{now}
 use Rattle.commit.specs.declared.Asked.the-variants.{Commit as Is, Refused}
-use Rattle.file.proofs.Fitting.{zero-of}
+use Rattle.fit.proofs.Fitting.{zero-of}
 use Rattle.commit.proofs.Words.{row-there, commit-out, commit-in}
 use borrow.Author.Needs.{needs}
 use Rattle.commit.proofs.commit_in.Statement.{statement}

@@ -2,9 +2,10 @@
 use Prim.Native.Nat.{ℕ}
 use mathlib.Core.Path.{ap, _∙_}
 use mathlib.Core.List.{List, []}
-use Rattle.sha1.specs.State.{updated, finished}
-use Rattle.sha1.specs.declared.hasher.Hasher.{Hasher}
-use Rattle.sha1.proofs.Laws.{of-none, of-more, of-finished}
+use Rattle.hasher.specs.State.{updated, finished}
+use Rattle.hasher.specs.declared.Hasher.{Hasher}
+use Rattle.hasher.proofs.Laws.{of-none, of-more}
+use Rattle.sha1.proofs.Laws.{of-finished}
 use borrow.Author.Needs.{needs}
 use Rattle.sha1.proofs.sha1.Statement.{statement}
 use Rattle.sha1.proofs.sha1.Tie as tie

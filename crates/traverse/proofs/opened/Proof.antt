@@ -2,7 +2,7 @@
 use mathlib.Core.Bool.{true}
 use mathlib.Core.Path.{ap, _∙_}
 use denote.Ref.{now}
-use Rattle.file.proofs.Opens.{opened}
+use Rattle.fit.proofs.Opens.{opened}
 use Rattle.traverse.specs.Traversal.{refusedBy}
 use Rattle.traverse.proofs.Traversing.{file-sum, file-name, file-commit, file-fine}
 use borrow.Author.Needs.{needs}

@@ -16,8 +16,9 @@ pub fn show(out: &mut Out, view: &View, commit: &Commit<'_>) -> io::Result<()> {
     let file = commit.file();
     out.field("id", &format!("{}  ({})", commit.id(), bytes(&commit.id_place())))?;
     out.field("tree", &format!("{}  ({})", commit.root_tree_id(), bytes(&commit.tree_place())))?;
-    out.field("time", &format!("{}  ({})", time::words(commit.committer_timestamp()), commit.committer_timestamp()))?;
-    out.field("generation", &commit.generation().to_string())?;
+    let (when, read) = (commit.committer_timestamp(), bytes(&commit.date_place()));
+    out.field("time", &format!("{} = {when} s  ({read})", time::words(when)))?;
+    out.field("generation", &format!("{}  ({read})", commit.generation()))?;
     out.field(view.word(), &if view.alone.is_some() { commit.position().to_string() } else { commit.graph_position().to_string() })?;
     out.field("file", &format!("{}, position {} in it", jampreso::plain(file.path()), commit.position()))?;
     let mut name = "parents";
@@ -26,7 +27,15 @@ pub fn show(out: &mut Out, view: &View, commit: &Commit<'_>) -> io::Result<()> {
         out.field(name, &text)?;
         name = "";
     }
-    if name == "parents" { out.field(name, "none") } else { Ok(()) }
+    if name == "parents" {
+        out.field(name, "none")?;
+    }
+    entry(commit).map_or(Ok(()), |e| out.field("trouble", &e.to_string()))
+}
+
+/// What is wrong with its id, its fan bucket or its tree. A refusal of its walk stands among the parents.
+fn entry(commit: &Commit<'_>) -> Option<Error> {
+    commit.trouble().filter(|e| e.number() >= Some(60))
 }
 
 /// A parent in words.
@@ -55,9 +64,10 @@ pub fn object(view: &View, commit: &Commit<'_>) -> String {
     object = object.raw("file", view.alone.unwrap_or(commit.file().index())).raw("file_position", commit.position());
     object = object.text("id", &commit.id().to_hex()).raw("id_at", commit.id_place().start);
     object = object.text("tree", &commit.root_tree_id().to_hex()).raw("tree_at", commit.tree_place().start);
-    object = object.raw("generation", commit.generation()).raw("time", commit.committer_timestamp());
+    object =
+        object.raw("generation", commit.generation()).raw("time", commit.committer_timestamp()).raw("date_at", commit.date_place().start);
     object = object.text("date", &time::short(commit.committer_timestamp())).raw("parents", json::array(parents));
-    match refusal {
+    match entry(commit).or(refusal) {
         Some(e) => object.raw("refusal", json::error(&e)).done(),
         None => object.done(),
     }

@@ -9,9 +9,6 @@ use crate::{
 use jampreso::{Chain, Error, Graph, Id, plain};
 use std::{ops::Range, path::Path};
 
-/// The chunks that git writes. An unknown one cannot be asked for by name.
-pub const CHUNKS: [&[u8; 4]; 9] = [b"OIDF", b"OIDL", b"CDAT", b"EDGE", b"BASE", b"GDA2", b"GDO2", b"BIDX", b"BDAT"];
-
 /// What is known of a file.
 pub struct Known {
     pub index: usize,
@@ -26,24 +23,20 @@ pub struct Known {
 impl Known {
     pub fn ask(chain: &Chain, index: usize) -> Known {
         let opened = chain.alone(index);
-        let mut chunks: Vec<(String, Range<usize>)> = Vec::new();
-        for name in CHUNKS {
-            if let Ok(Some(at)) = chain.chunk(index, name) {
-                chunks.push((String::from_utf8_lossy(name).into_owned(), at));
-            }
-        }
-        chunks.sort_by_key(|(_, at)| at.start);
-        let trailer = opened.as_ref().ok().and_then(|g| g.file(0)).map(|f| {
-            let (at, id) = f.trailer();
-            (at, id, f.verify_checksum().is_ok())
-        });
-        Known { index, opened, chunks, met: chain.traverse(index).err(), trailer }
+        let chunks = chain.chunks(index).unwrap_or_default().into_iter().map(|(id, at)| (spelt(id), at)).collect();
+        Known { index, opened, chunks, met: chain.traverse(index).err(), trailer: chain.trailer(index).ok() }
     }
 
     pub fn all(chain: &Chain) -> Vec<Known> {
         let what = format!("checking {}", counted(chain.members().len() as u64, "file", "files"));
         crate::progress::during(&what, || (0..chain.members().len()).map(|k| Known::ask(chain, k)).collect())
     }
+}
+
+/// The name of a chunk: its four letters, or its number where they are not all letters and digits.
+fn spelt(id: u32) -> String {
+    let letters = id.to_be_bytes();
+    if letters.iter().all(u8::is_ascii_alphanumeric) { letters.map(char::from).iter().collect() } else { format!("0x{id:08x}") }
 }
 
 /// What a name says, in words.

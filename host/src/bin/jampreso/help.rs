@@ -14,7 +14,7 @@ jampreso looks into git's commit-graph files and verifies them, by code that is 
   jampreso explain NUMBER           what a refusal means
 
 PATH    a repository, a .git folder, objects/info, a commit-graph file, a commit-graphs folder, or a graph-*.graph file
-COMMIT  an id, the first 4 or more digits of one, a position, or FILE:POSITION
+COMMIT  an id, the first 4 or more digits of one, a position, or FILE:POSITION; up to 10 digits from 0 to 9 are a position
 --json  the answer as JSON        --help, --version
 
 The status is 0 if all is well, 1 if something was refused or is not there, 2 if something could not be read or the command is wrong.";
@@ -50,7 +50,7 @@ const FILES: &str = "\
 jampreso files PATH [--json]
 jampreso files --html OUT PATH
 
-Each file: what its name claims, its size, commits, bases, known chunks with their places and sizes, whether the trailer is right,
+Each file: what its name claims, its size, commits, bases, chunks with their places and sizes, whether the trailer is right,
 and the first refusal that the file meets by itself; then that of the chain. With --html, OUT becomes one page that needs nothing else.";
 
 const EXPLAIN: &str = "\

@@ -63,7 +63,7 @@ fn page(path: &Path, seen: &Seen) -> String {
         format!("<body><header><h1>{title}</h1>{}</header><main>", banner(seen)),
         format!("<section><h2>{}</h2>{files}</section>", counted(seen.known.len() as u64, "file", "files")),
         table::section(seen),
-        "</main><aside id=\"bytes\" aria-live=\"polite\">Click an id, a tree or a parent to see its bytes.</aside>".to_owned(),
+        "</main><aside id=\"bytes\" aria-live=\"polite\">Click an id, a tree, a time or a parent to see its bytes.</aside>".to_owned(),
         format!("<script>{SCRIPT}</script></body></html>\n"),
     ]
     .concat()

@@ -1,6 +1,6 @@
 -- `exports::single::jampreso_file_commit` meets its contract.
 use mathlib.Core.Path.{ap, _∙_}
-use Rattle.exports.specs.Images.{flatCommit}
+use Rattle.flat.specs.Images.{flatCommit}
 use borrow.Author.Needs.{needs}
 use Rattle.exports.proofs.single.jampreso_file_commit.Statement.{statement}
 use Rattle.exports.proofs.single.jampreso_file_commit.Tie as tie

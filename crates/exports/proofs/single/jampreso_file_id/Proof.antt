@@ -1,14 +1,15 @@
 -- `exports::single::jampreso_file_id` meets its contract.
-use native.Mathlib.Nat.{add-zero}
 use borrow.Author.Needs.{needs}
 use Rattle.exports.proofs.single.jampreso_file_id.Statement.{statement}
 use Rattle.exports.proofs.single.jampreso_file_id.Tie as tie
 
 returns : tie.Need-returns
-returns c = rw (← c .before .file-of .ensures) (rw add-zero at (c .row-at .ensures))
+returns c = rw (← c .before .file-of .ensures) (c .id-part .ensures)
 
 pub jampreso-file-id-spec : {M : Type 1} → statement M
-jampreso-file-id-spec = tie.close (tie.spec
+jampreso-file-id-spec =
+    tie.close
+    (tie.spec
     (λ c κs. search needs)
     (λ c κs. search needs)
     returns)

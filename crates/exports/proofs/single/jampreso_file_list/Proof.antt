@@ -1,6 +1,6 @@
 -- `exports::single::jampreso_file_list` meets its contract.
 use mathlib.Core.Path.{ap, _∙_}
-use Rattle.exports.specs.Images.{flatTotal}
+use Rattle.flat.specs.Images.{flatTotal}
 use borrow.Author.Needs.{needs}
 use Rattle.exports.proofs.single.jampreso_file_list.Statement.{statement}
 use Rattle.exports.proofs.single.jampreso_file_list.Tie as tie

@@ -1,13 +1,13 @@
 -- `exports::single::jampreso_file_step` meets its contract.
 use mathlib.Core.Path.{ap, _∙_}
-use Rattle.exports.specs.Images.{flatStepped}
-use Rattle.exports.proofs.Backs.{stepped}
+use Rattle.flat.specs.Images.{flatStepped}
+use Rattle.flat.proofs.Backs.{stepped}
 use borrow.Author.Needs.{needs}
 use Rattle.exports.proofs.single.jampreso_file_step.Statement.{statement}
 use Rattle.exports.proofs.single.jampreso_file_step.Tie as tie
 
 returns : tie.Need-returns
-returns c = rw (← c .before .before .before .file-of .ensures, ← c .before .before .phase-of .ensures) (stepped _ _ (c .step-flat .ensures ∙ ap flatStepped (c .before .step-at .ensures)))
+returns c = rw (← c .before .before .before .file-of .ensures, ← c .before .before .phase-of .ensures) (stepped _ _ (c .stepped-flat .ensures ∙ ap flatStepped (c .before .step-at .ensures)))
 
 pub jampreso-file-step-spec : {M : Type 1} → statement M
 jampreso-file-step-spec =

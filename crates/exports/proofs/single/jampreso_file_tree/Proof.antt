@@ -4,10 +4,12 @@ use Rattle.exports.proofs.single.jampreso_file_tree.Statement.{statemen
 use Rattle.exports.proofs.single.jampreso_file_tree.Tie as tie
 
 returns : tie.Need-returns
-returns c = rw (← c .before .file-of .ensures) (c .row-at .ensures)
+returns c = rw (← c .before .file-of .ensures) (c .tree-part .ensures)
 
 pub jampreso-file-tree-spec : {M : Type 1} → statement M
-jampreso-file-tree-spec = tie.close (tie.spec
+jampreso-file-tree-spec =
+    tie.close
+    (tie.spec
     (λ c κs. search needs)
     (λ c κs. search needs)
     returns)

@@ -1,6 +1,6 @@
 -- `exports::single::jampreso_name` meets its contract.
 use mathlib.Core.Path.{ap}
-use Rattle.exports.specs.Images.{flatName}
+use Rattle.flat.specs.Images.{flatName}
 use borrow.Author.Needs.{needs}
 use Rattle.exports.proofs.single.jampreso_name.Statement.{statement}
 use Rattle.exports.proofs.single.jampreso_name.Tie as tie

@@ -1,6 +1,6 @@
 -- `exports::single::jampreso_sha1` meets its contract.
 use mathlib.Core.Path.{ap}
-use Rattle.exports.specs.Images.{flatDigest}
+use Rattle.flat.specs.Images.{flatDigest}
 use borrow.Author.Needs.{needs}
 use Rattle.exports.proofs.single.jampreso_sha1.Statement.{statement}
 use Rattle.exports.proofs.single.jampreso_sha1.Tie as tie

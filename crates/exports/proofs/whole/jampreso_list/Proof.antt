@@ -1,6 +1,6 @@
 -- `exports::whole::jampreso_list` meets its contract.
 use mathlib.Core.Path.{ap, _∙_}
-use Rattle.exports.specs.Images.{flatTotal}
+use Rattle.flat.specs.Images.{flatTotal}
 use borrow.Author.Needs.{needs}
 use Rattle.exports.proofs.whole.jampreso_list.Statement.{statement}
 use Rattle.exports.proofs.whole.jampreso_list.Tie as tie

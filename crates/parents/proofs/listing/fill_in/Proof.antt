@@ -4,9 +4,9 @@ use lib.ListN.{length}
 use Prim.Native.Nat.{_-_}
 use borrow.Author.Needs.{needs}
 use denote.Ref.{now}
-use Rattle.parents.specs.Walks.{firstWalk, restOf, positions}
+use Rattle.steps.specs.Walks.{firstWalk, restOf, positions}
 use Rattle.parents.specs.Lists.{overlay}
-use Rattle.parents.proofs.Walking.{rest-parent, rest-stop, rest-end}
+use Rattle.steps.proofs.Walking.{rest-parent, rest-stop, rest-end}
 use Rattle.parents.proofs.Filling.{Filling, fill-begins, fill-next, fill-stops, fill-full}
 use Rattle.parents.proofs.listing.fill_in.Statement.{statement}
 use Rattle.parents.proofs.listing.fill_in.Tie as tie

@@ -9,6 +9,9 @@ use crate::{
 use jampreso::{Error, Refused, file, plain};
 use std::ops::Range;
 
+/// No more damaged places than this are marked in a file.
+const MARKS: usize = 1000;
+
 /// A stretch of a file: its class, its words and its bytes.
 struct Stretch {
     class: String,
@@ -27,7 +30,8 @@ pub fn section(seen: &Seen, known: &Known) -> String {
         );
     }
     let met = refusals(seen, known);
-    let damage: Vec<Range<usize>> = met.iter().filter_map(|e| e.refused()).map(|r| damaged(known, r, member.size())).collect();
+    let mut damage: Vec<Range<usize>> = met.iter().filter_map(|e| e.refused()).map(|r| damaged(known, r, member.size())).collect();
+    damage.extend(more(known, member.size()).into_iter().filter(|at| !damage.contains(at)).collect::<Vec<_>>());
     let stretches = stretches(known, member.size());
     let drawn: String = stretches.iter().map(|s| draw(s, member.size(), &damage)).collect();
     let marks: String = damage
@@ -101,12 +105,19 @@ fn draw(s: &Stretch, size: usize, damage: &[Range<usize>]) -> String {
     format!("<b class=\"{}{more}\" style=\"{}\" title=\"{}: {}\"></b>", s.class, scale(&s.at, size), escape(&s.words), bytes(&s.at))
 }
 
+/// What is wrong with each commit by itself, in a file that meets some refusal.
+fn more(known: &Known, size: usize) -> Vec<Range<usize>> {
+    let file = known.opened.as_ref().ok().filter(|_| known.met.is_some()).and_then(|g| g.file(0));
+    let troubles = file.into_iter().flat_map(|f| f.iter_commits()).filter_map(|c| c.trouble());
+    troubles.filter_map(|e| e.refused().map(|r| damaged(known, r, size))).take(MARKS).collect()
+}
+
 /// The bytes that a refusal is about, as far as that can be told.
 fn damaged(known: &Known, refused: &Refused, size: usize) -> Range<usize> {
     let chunk = |name: &str| known.chunks.iter().find(|(n, _)| n == name).map(|(_, at)| at.clone());
     let front = 0..known.chunks.iter().map(|(_, at)| at.start).min().unwrap_or(size);
     let commit = || known.opened.as_ref().ok()?.file(0)?.try_commit_at(file::Position(refused.place as u32)).ok();
-    let row = || commit().map(|c| c.tree_place().start..c.tree_place().end + 16);
+    let row = || commit().map(|c| c.tree_place().start..c.date_place().end);
     let found = match refused.number {
         10 | 11 | 61 => chunk("BASE"),
         13 | 22 => chunk("CDAT"),
@@ -116,7 +127,8 @@ fn damaged(known: &Known, refused: &Refused, size: usize) -> Range<usize> {
         62 | 63 => known.trailer.as_ref().map(|(at, _, _)| at.clone()),
         64..=66 => commit().map(|c| c.id_place()),
         67 => commit().map(|c| c.tree_place()),
-        50..=54 | 68 | 69 => row(),
+        69 => commit().map(|c| c.date_place()),
+        50..=54 | 68 => row(),
         _ => None,
     };
     found.unwrap_or(front)

@@ -1,4 +1,4 @@
-// A click on an id, a tree or a parent shows the bytes that it was read from: in the file's bar, and as numbers below.
+// A click on an id, a tree, a time or a parent shows the bytes that it was read from: in the file's bar, and as numbers below.
 "use strict";
 const LINE = 16;
 const panel = document.getElementById("bytes");

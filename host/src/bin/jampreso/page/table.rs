@@ -1,4 +1,4 @@
-//! The commits as a table, where each id, tree and parent knows the bytes that it was read from.
+//! The commits as a table, where each id, tree, time and parent knows the bytes that it was read from.
 
 use super::{Seen, escape};
 use crate::{
@@ -45,18 +45,21 @@ fn row(seen: &Seen, view: &View, commit: &Commit<'_>) -> String {
     let class = if bad.is_some() { " class=\"damaged\"" } else { "" };
     let id = read(seen, index, commit.id_place(), "id", &short(commit.id()), &commit.id().to_hex());
     let tree = read(seen, index, commit.tree_place(), "tree", &short(commit.root_tree_id()), &commit.root_tree_id().to_hex());
-    let when = time::short(commit.committer_timestamp());
+    let when = read(seen, index, commit.date_place(), "date", &time::short(commit.committer_timestamp()), "generation and time");
     format!(
         "<tr{class}><td>{place}</td><td>{id}</td><td>{tree}</td><td>{when}</td><td>{}</td><td>{parents}{words}</td></tr>\n",
         commit.generation()
     )
 }
 
-/// Whether this is the commit that verification stopped at, or that its file's own traversal did.
+/// What is wrong with this commit by itself, or that verification or its file's own traversal stopped at it.
 fn guilty(seen: &Seen, view: &View, commit: &Commit<'_>) -> Option<String> {
     let index = view.alone.unwrap_or(commit.file().index());
     let chain = seen.verdict.as_ref().filter(|e| e.refused().is_some_and(|r| r.file as usize == index));
     let alone = seen.known.get(index).and_then(|k| k.met.as_ref());
+    if let Some(trouble) = alone.and_then(|_| commit.trouble()) {
+        return Some(trouble.to_string());
+    }
     let here = |e: &&jampreso::Error| {
         e.refused().is_some_and(|r| r.commit.is_some_and(|(_, id)| id == commit.id()) && r.place == u64::from(commit.position().0))
     };

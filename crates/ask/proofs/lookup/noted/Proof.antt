@@ -1,0 +1,40 @@
+-- `ask::lookup::noted` meets its contract.
+use mathlib.Core.Path.{sym, _∙_}
+use native.Mathlib.Omega.{arith}
+use Rattle.ask.specs.Lookups.{noteFile}
+use Rattle.ask.proofs.Looking.{noted-seen, noted-new}
+use borrow.Author.Needs.{needs}
+use Rattle.ask.proofs.lookup.noted.Statement.{statement}
+use Rattle.ask.proofs.lookup.noted.Tie as tie
+
+returns : tie.Need-returns
+returns c = noted-seen _ _ _ (c .if1 .taken)
+
+add-pos : tie.Need-add-pos
+add-pos c = omega (arith, c .before .before .before .before .before .before .before .before .pre (c .before .before .p .given .0 .0 .0) (sym (c .before .before .before .before .lookup .ensures .0) ∙ c .before .before .p .given .1))
+
+returns-2 : tie.Need-returns-2
+unfolding noteFile
+returns-2 c = noted-new _ _ _ (c .before .before .before .before .before .if1 .left) _ (sym (c .before .before .before .before .lookup .ensures .0) ∙ c .before .before .p .given .1)
+
+returns-3 : tie.Need-returns-3
+unfolding noteFile
+returns-3 c = noted-new _ _ _ (c .before .before .before .if1 .left) _ (sym (c .before .before .lookup .ensures .0) ∙ c .enum-told .given .1)
+
+returns-4 : tie.Need-returns-4
+unfolding noteFile
+returns-4 c = noted-new _ _ _ (c .before .before .before .if1 .left) _ (sym (c .before .before .lookup .ensures .0) ∙ c .enum-told2 .given .1)
+
+pub noted-spec : {M : Type 1} → statement M
+noted-spec =
+    tie.close
+    (tie.spec
+    returns
+    (λ c κs. search needs)
+    (λ c. search needs)
+    add-pos
+    (λ c. search needs)
+    (λ c. search needs)
+    returns-2
+    returns-3
+    returns-4)

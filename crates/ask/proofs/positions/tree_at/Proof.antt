@@ -1,0 +1,33 @@
+-- `ask::positions::tree_at` meets its contract.
+use mathlib.Core.Path.{refl, sym, _∙_}
+use native.Mathlib.Omega.{arith}
+use denote.Ref.{now}
+use Rattle.ask.proofs.Reading.{tree-none, tree-part}
+use borrow.Author.Needs.{needs}
+use Rattle.ask.proofs.positions.tree_at.Statement.{statement}
+use Rattle.ask.proofs.positions.tree_at.Tie as tie
+
+returns : tie.Need-returns
+returns c =
+    let y = c .before .before .before .before .before .before in
+    tree-none 32 (y .args .chain) (now (y .args .list)) (y .args .pos .0) _ (sym (c .before .before .before .locate .ensures) ∙ c .before .enum-told .given .1) (record { block = refl; start = omega arith; bytes = refl })
+
+returns-2 : tie.Need-returns-2
+returns-2 c =
+    let y = c .before .before .before .before .before .before .before .before .before .before in
+    tree-part 32 (y .args .chain) (now (y .args .list)) (y .args .pos .0) _ (sym (c .before .before .before .before .before .before .before .locate .ensures) ∙ c .before .before .before .before .before .spot .given .1) (c .before .before .before .part .ensures) (c .tree-at .ensures)
+
+pub tree-at-spec : {M : Type 1} → statement M
+tree-at-spec =
+    tie.close
+    (tie.spec
+    (λ c κs. search needs)
+    (λ c. search needs)
+    (λ c. search needs)
+    (λ c. search needs)
+    (λ c. search needs)
+    (λ c. search needs)
+    (λ c κs. search needs)
+    (λ c κs. search needs)
+    returns
+    returns-2)

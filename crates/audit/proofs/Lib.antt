@@ -1,0 +1,5 @@
+pub mod Tabling
+pub mod Meeting
+pub mod Heading
+pub mod Trying
+pub mod Filing

@@ -1,0 +1,26 @@
+-- `audit::measure` meets its contract.
+use mathlib.Core.Bool.{cond}
+use mathlib.Core.Path.{_≡_, refl, sym, _∙_}
+use native.Mathlib.Omega.{arith}
+use lib.Dec.{eqb}
+use borrow.Author.Tests.{eq-eqb, ne-eqb}
+use Rattle.ancestry.specs.Graph.{lengthOf, cap}
+use Rattle.audit.specs.Rules.{lengthBy}
+use borrow.Author.Needs.{needs}
+use Rattle.audit.proofs.measure.Statement.{statement}
+use Rattle.audit.proofs.measure.Tie as tie
+
+returns : tie.Need-returns
+unfolding lengthOf lengthBy
+returns c = rw (eq-eqb (c .before .args .h) cap (c .if1 .taken))
+
+returns-2 : tie.Need-returns-2
+unfolding lengthOf lengthBy
+returns-2 c = rw (ne-eqb (c .before .before .args .h) cap (c .before .if1 .left), c .if2 .taken)
+
+returns-3 : tie.Need-returns-3
+unfolding lengthOf lengthBy
+returns-3 c = rw (ne-eqb (c .before .before .args .h) cap (c .before .if1 .left))
+
+pub measure-spec : {M : Type 1} → statement M
+measure-spec = tie.close (tie.spec returns returns-2 (λ c. search needs) returns-3)

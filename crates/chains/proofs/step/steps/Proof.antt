@@ -1,0 +1,32 @@
+-- `chains::step::steps` meets its contract.
+use Prim.Native.Nat.{_≤_, _-_}
+use borrow.Author.Needs.{needs}
+use lib.ListN.{length}
+use Rattle.chains.proofs.step.steps.Statement.{statement}
+use Rattle.chains.proofs.step.steps.Tie as tie
+
+abbrev Inv-loop : tie.InvT-loop
+Inv-loop chain list asked at₀ at = at ≤ length asked
+
+abbrev μ-loop : tie.MeasureT-loop
+μ-loop chain list asked at₀ at = length asked - at
+
+pub steps-spec : {M : Type 1} → statement M
+steps-spec =
+    tie.close
+    (tie.spec
+    Inv-loop
+    μ-loop
+    (λ c. search needs)
+    (λ c. search needs)
+    (λ c κs. search needs)
+    (λ c. search needs)
+    (λ c. search needs)
+    (λ c. search needs)
+    (λ c κs. search needs)
+    (λ c κs. search needs)
+    (λ c κs. search needs)
+    (λ c. search needs)
+    (λ c. search needs)
+    (λ c. search needs)
+    (λ c. search needs))

@@ -1,0 +1,44 @@
+-- `chunk::index::entry_rule` meets its contract.
+use Prim.Native.Nat.{_+_, _*_}
+use mathlib.Core.Path.{_≡_}
+use lib.ListN.{length}
+use denote.Ref.{now}
+use Rattle.words.proofs.Rows.{rows}
+use Rattle.chunk.specs.Index.{chunks, offAt, rangeRule, entryRule}
+use Rattle.chunk.proofs.Entries.{searching}
+use borrow.Author.Needs.{needs}
+use Rattle.chunk.proofs.index.entry_rule.Statement.{statement}
+use Rattle.chunk.proofs.index.entry_rule.Tie as tie
+
+returns : tie.Need-returns
+unfolding entryRule
+returns c = search rows
+
+returns-2 : tie.Need-returns-2
+unfolding entryRule
+returns-2 c = search (rows, searching, c .before .before .if1 .left) depth 20
+
+returns-3 : tie.Need-returns-3
+unfolding entryRule
+returns-3 c =
+    let m = c .before .before .before .before .before in
+    let a = m .before .before .before .args in
+    let l = now (a .s) in
+    let r : c .range-rule .result ≡ rangeRule (length l) (20 + 12 * chunks l) (offAt l (a .i)) (offAt l (a .i + 1)) = cc in
+    search (rows, searching, m .if1 .left) depth 20
+
+pub entry-rule-spec : {M : Type 1} → statement M
+entry-rule-spec =
+    tie.close
+    (tie.spec
+    (λ c κs. search needs)
+    returns
+    (λ c κs. search needs)
+    returns-2
+    (λ c κs. search needs)
+    (λ c. search needs)
+    (λ c κs. search needs)
+    (λ c. search needs)
+    (λ c. search needs)
+    (λ c κs. search needs)
+    returns-3)

@@ -1,3 +1,0 @@
-pub mod Backs
-pub mod Placing
-pub mod Spotting

@@ -1,0 +1,18 @@
+-- `exports::single::jampreso_file_entry` meets its contract.
+use mathlib.Core.Path.{ap, _∙_}
+use Rattle.flat.specs.Images.{flatAsked}
+use borrow.Author.Needs.{needs}
+use Rattle.exports.proofs.single.jampreso_file_entry.Statement.{statement}
+use Rattle.exports.proofs.single.jampreso_file_entry.Tie as tie
+
+returns : tie.Need-returns
+returns c = rw (← c .before .before .file-of .ensures) (c .asked-flat .ensures ∙ ap flatAsked (c .before .entry-at .ensures))
+
+pub jampreso-file-entry-spec : {M : Type 1} → statement M
+jampreso-file-entry-spec =
+    tie.close
+    (tie.spec
+    (λ c κs. search needs)
+    (λ c κs. search needs)
+    (λ c κs. search needs)
+    returns)

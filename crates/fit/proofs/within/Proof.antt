@@ -1,0 +1,15 @@
+-- `fit::within` meets its contract.
+use mathlib.Core.Path.{_∙_}
+use borrow.Author.Needs.{needs}
+use Rattle.fit.proofs.within.Statement.{statement}
+use Rattle.fit.proofs.within.Tie as tie
+
+returns : tie.Need-returns
+returns c = c .room .ensures ∙ rw (c .before .size .ensures, c .before .before .start .ensures)
+
+pub within-spec : {M : Type 1} → statement M
+within-spec = tie.close (tie.spec
+    (λ c κs. search needs)
+    (λ c κs. search needs)
+    (λ c κs. search needs)
+    returns)

@@ -1,0 +1,22 @@
+-- `flat::answers::asked_flat` meets its contract.
+use Rattle.flat.specs.Images.{flatAsked}
+use borrow.Author.Needs.{needs}
+use Rattle.flat.proofs.answers.asked_flat.Statement.{statement}
+use Rattle.flat.proofs.answers.asked_flat.Tie as tie
+
+returns : tie.Need-returns
+unfolding flatAsked
+returns c = rw (c .enum-told .given .1)
+
+returns-2 : tie.Need-returns-2
+unfolding flatAsked
+returns-2 c = rw (c .before .a .given .1)
+
+pub asked-flat-spec : {M : Type 1} → statement M
+asked-flat-spec =
+    tie.close
+    (tie.spec
+    (λ c. search needs)
+    (λ c. search needs)
+    returns
+    returns-2)

@@ -1,0 +1,28 @@
+-- `flat::answers::found_in_flat` meets its contract.
+use Rattle.flat.specs.Images.{flatFoundIn}
+use borrow.Author.Needs.{needs}
+use Rattle.flat.proofs.answers.found_in_flat.Statement.{statement}
+use Rattle.flat.proofs.answers.found_in_flat.Tie as tie
+
+returns : tie.Need-returns
+unfolding flatFoundIn
+returns c = rw (c .before .y .given .1)
+
+returns-2 : tie.Need-returns-2
+unfolding flatFoundIn
+returns-2 c = rw (c .enum-told .given .1)
+
+returns-3 : tie.Need-returns-3
+unfolding flatFoundIn
+returns-3 c = rw (c .before .y2 .given .1)
+
+pub found-in-flat-spec : {M : Type 1} → statement M
+found-in-flat-spec =
+    tie.close
+    (tie.spec
+    (λ c. search needs)
+    (λ c. search needs)
+    (λ c. search needs)
+    returns
+    returns-2
+    returns-3)

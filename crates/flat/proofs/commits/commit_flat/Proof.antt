@@ -1,0 +1,26 @@
+-- `flat::commits::commit_flat` meets its contract.
+use Rattle.flat.specs.Images.{flatCommit}
+use borrow.Author.Needs.{needs}
+use Rattle.flat.proofs.commits.commit_flat.Statement.{statement}
+use Rattle.flat.proofs.commits.commit_flat.Tie as tie
+
+returns : tie.Need-returns
+unfolding flatCommit
+returns c = simp (c .edge-word2 .ensures, c .before .edge-kind2 .ensures, c .before .before .edge-word .ensures, c .before .before .before .edge-kind .ensures, c .before .before .before .before .before .a .given .1)
+
+returns-2 : tie.Need-returns-2
+unfolding flatCommit
+returns-2 c = rw (c .before .a2 .given .1)
+
+pub commit-flat-spec : {M : Type 1} → statement M
+commit-flat-spec =
+    tie.close
+    (tie.spec
+    (λ c. search needs)
+    (λ c κs. search needs)
+    (λ c κs. search needs)
+    (λ c κs. search needs)
+    (λ c κs. search needs)
+    (λ c. search needs)
+    returns
+    returns-2)

@@ -1,0 +1,20 @@
+-- `flat::records::edge_of` meets its contract.
+use borrow.Author.Tests.{eq-eqb, ne-eqb}
+use Rattle.flat.specs.Records.{edgeOf, pickChunk}
+use borrow.Author.Needs.{needs}
+use Rattle.flat.proofs.records.edge_of.Statement.{statement}
+use Rattle.flat.proofs.records.edge_of.Tie as tie
+
+returns : tie.Need-returns
+unfolding edgeOf pickChunk
+returns c = rw (eq-eqb _ 0 (c .if1 .taken))
+
+returns-2 : tie.Need-returns-2
+unfolding edgeOf pickChunk
+returns-2 c = rw (ne-eqb _ 0 (c .before .if1 .left), c .end-of .ensures)
+
+pub edge-of-spec : {M : Type 1} → statement M
+edge-of-spec = tie.close (tie.spec
+    returns
+    (λ c κs. search needs)
+    returns-2)

@@ -1,0 +1,15 @@
+-- `flat::records::file_of` meets its contract.
+use Rattle.flat.specs.Records.{fileOf}
+use borrow.Author.Needs.{needs}
+use Rattle.flat.proofs.records.file_of.Statement.{statement}
+use Rattle.flat.proofs.records.file_of.Tie as tie
+
+returns : tie.Need-returns
+unfolding fileOf
+returns c = rw (c .before .edge-of .ensures)
+
+pub file-of-spec : {M : Type 1} → statement M
+file-of-spec = tie.close (tie.spec
+    (λ c κs. search needs)
+    (λ c. search needs)
+    returns)

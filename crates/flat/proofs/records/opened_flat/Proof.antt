@@ -1,0 +1,24 @@
+-- `flat::records::opened_flat` meets its contract.
+use Rattle.flat.specs.Records.{flatOpened}
+use borrow.Author.Needs.{needs}
+use Rattle.flat.proofs.records.opened_flat.Statement.{statement}
+use Rattle.flat.proofs.records.opened_flat.Tie as tie
+
+returns : tie.Need-returns
+unfolding flatOpened
+returns c = rw (c .before .before .o .given .1, c .record-of .ensures)
+
+returns-2 : tie.Need-returns-2
+unfolding flatOpened
+returns-2 c = rw (c .before .before .o2 .given .1, c .blank .ensures)
+
+pub opened-flat-spec : {M : Type 1} → statement M
+opened-flat-spec =
+    tie.close
+    (tie.spec
+    (λ c. search needs)
+    (λ c κs. search needs)
+    (λ c. search needs)
+    (λ c κs. search needs)
+    returns
+    returns-2)

@@ -1,0 +1,17 @@
+-- `flat::records::record_of` meets its contract.
+use Rattle.flat.specs.Records.{recordOf}
+use borrow.Author.Needs.{needs}
+use Rattle.flat.proofs.records.record_of.Statement.{statement}
+use Rattle.flat.proofs.records.record_of.Tie as tie
+
+returns : tie.Need-returns
+unfolding recordOf
+returns c = simp (c .present .ensures, c .before .before .size .ensures, c .before .before .before .start .ensures)
+
+pub record-of-spec : {M : Type 1} → statement M
+record-of-spec = tie.close (tie.spec
+    (λ c κs. search needs)
+    (λ c κs. search needs)
+    (λ c. search needs)
+    (λ c κs. search needs)
+    returns)

@@ -1,0 +1,12 @@
+-- `flat::walks::walk_at` meets its contract.
+use borrow.Author.Needs.{needs}
+use Rattle.flat.proofs.walks.walk_at.Statement.{statement}
+use Rattle.flat.proofs.walks.walk_at.Tie as tie
+
+returns : tie.Need-returns
+returns c = rw (c .phase-of .ensures)
+
+pub walk-at-spec : {M : Type 1} → statement M
+walk-at-spec = tie.close (tie.spec
+    (λ c κs. search needs)
+    returns)

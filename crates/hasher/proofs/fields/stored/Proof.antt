@@ -1,0 +1,53 @@
+-- `hasher::fields::stored` meets its contract.
+use Prim.Native.Nat.{ℕ, _+_, _-_, _≤_, _<_}
+use mathlib.Core.Path.{_≡_, refl, sym, ap, _∙_}
+use mathlib.Core.List.{List}
+use native.Mathlib.Numerals.{add-one}
+use native.Mathlib.Omega.{arith}
+use borrow.Author.Needs.{needs}
+use lib.ListN.{length, getD, set}
+use lib.Seq.{paste, paste-zero, paste-suc}
+use Rattle.hasher.proofs.fields.stored.Statement.{statement}
+use Rattle.hasher.proofs.fields.stored.Tie as tie
+
+abbrev Inv-loop : tie.InvT-loop
+Inv-loop n s out₀ j₀ out j = (j ≤ length s) × (out ≡ paste out₀ n s j)
+
+abbrev μ-loop : tie.MeasureT-loop
+μ-loop n s out₀ j₀ out j = length s - j
+
+loop-holds : tie.Need-loop-holds Inv-loop μ-loop
+loop-holds c = (search needs, paste-zero (c .args .old) (c .args .n) (c .args .s .now))
+
+loop-again : tie.Need-loop-again Inv-loop μ-loop
+loop-again c =
+    let l = c .before .before .loop in
+    let a = c .before .before .before .args in
+    let e : length (a .old) ≡ 64 = search needs in (
+      omega arith,
+      ap (λ (o : List ℕ). set o (a .n + l .j) (getD (a .s .now) (l .j) 0)) (l .inv .1)
+          ∙ paste-suc (a .old) (a .n) (a .s .now) (l .j) 0 (omega arith) (omega arith)
+          ∙ ap (paste (a .old) (a .n) (a .s .now)) (sym (add-one (l .j))),
+    )
+
+returns : tie.Need-returns Inv-loop μ-loop
+returns c =
+    let l = c .before .loop in
+    let a = c .before .before .args in
+    let q : l .j ≡ length (a .s .now) = omega arith in
+    l .inv .1 ∙ ap (paste (a .old) (a .n) (a .s .now)) q
+
+pub stored-spec : {M : Type 1} → statement M
+stored-spec =
+    tie.close
+    (tie.spec
+    Inv-loop
+    μ-loop
+    loop-holds
+    (λ c. omega arith)
+    (λ c. omega arith)
+    (λ c. omega arith)
+    (λ c. omega arith)
+    (λ c. omega arith)
+    loop-again
+    returns)

@@ -1,0 +1,4 @@
+pub mod Message
+pub mod Fips
+pub mod Feed
+pub mod State

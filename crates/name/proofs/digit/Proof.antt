@@ -1,0 +1,55 @@
+-- `name::digit` meets its contract.
+use native.Mathlib.Omega.{arith}
+use Rattle.words.proofs.Rows.{rows}
+use Rattle.name.specs.Names.{digitOf}
+use borrow.Author.Needs.{needs}
+use Rattle.name.proofs.digit.Statement.{statement}
+use Rattle.name.proofs.digit.Tie as tie
+
+returns : tie.Need-returns
+unfolding digitOf
+returns c = (search rows depth 20, omega arith)
+
+returns-2 : tie.Need-returns-2
+unfolding digitOf
+returns-2 c = (search rows depth 20, omega arith)
+
+returns-3 : tie.Need-returns-3
+unfolding digitOf
+returns-3 c = (search rows depth 20, omega arith)
+
+returns-4 : tie.Need-returns-4
+unfolding digitOf
+returns-4 c = (search rows depth 20, omega arith)
+
+returns-5 : tie.Need-returns-5
+unfolding digitOf
+returns-5 c = (search rows depth 20, omega arith)
+
+returns-6 : tie.Need-returns-6
+unfolding digitOf
+returns-6 c = (search rows depth 20, omega arith)
+
+returns-7 : tie.Need-returns-7
+unfolding digitOf
+returns-7 c = (search rows depth 20, omega arith)
+
+pub digit-spec : {M : Type 1} → statement M
+digit-spec =
+    tie.close
+    (tie.spec
+    returns
+    returns-2
+    returns-3
+    (λ
+    c.
+    search
+    needs)
+    returns-4
+    returns-5
+    (λ
+    c.
+    search
+    needs)
+    returns-6
+    returns-7)

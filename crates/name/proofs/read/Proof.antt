@@ -1,0 +1,39 @@
+-- `name::read` meets its contract.
+use mathlib.Core.Bool.{Bool, true, false}
+use mathlib.Core.Path.{_≡_, sym, ap, _∙_}
+use lib.Dec.{eqb}
+use denote.Ref.{now}
+use borrow.Author.Tests.{eq-eqb, ne-eqb}
+use Rattle.name.specs.Names.{kindOf, claimOf, nameOf}
+use Rattle.name.proofs.Hex.{hexed, named}
+use borrow.Author.Needs.{needs}
+use Rattle.name.proofs.read.Statement.{statement}
+use Rattle.name.proofs.read.Tie as tie
+
+claimed-requires : tie.Need-claimed-requires
+claimed-requires c κs = hexed 20 _ (sym (c .before .kind .ensures) ∙ c .if1 .taken)
+
+returns : tie.Need-returns
+unfolding nameOf claimOf
+returns c =
+    let l = now (c .before .before .before .before .args .s) in
+    let e : eqb (kindOf 20 l) 1 ≡ true = eq-eqb _ _ (sym (c .before .before .kind .ensures) ∙ c .before .if1 .taken) in
+    named (c .before .before .kind .ensures) (c .claimed .ensures ∙ ap (λ (t : Bool). claimOf t l) (sym e))
+
+returns-2 : tie.Need-returns-2
+unfolding nameOf claimOf
+returns-2 c =
+    let l = now (c .before .before .before .args .s) in
+    let e : eqb (kindOf 20 l) 1 ≡ false = ne-eqb _ _ (λ d. c .if1 .left (c .before .kind .ensures ∙ d)) in
+    named (c .before .kind .ensures) (ap (λ (t : Bool). claimOf t l) (sym e))
+
+pub read-spec : {M : Type 1} → statement M
+read-spec = tie.close (tie.spec
+    (λ
+    c
+    κs.
+    search
+    needs)
+    claimed-requires
+    returns
+    returns-2)

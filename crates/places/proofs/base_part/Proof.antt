@@ -1,0 +1,14 @@
+-- `places::base_part` meets its contract.
+use native.Mathlib.Nat.{add-zero}
+use borrow.Author.Needs.{needs}
+use Rattle.places.proofs.base_part.Statement.{statement}
+use Rattle.places.proofs.base_part.Tie as tie
+
+returns : tie.Need-returns
+returns c = rw add-zero at (c .row-at .ensures)
+
+pub base-part-spec : {M : Type 1} → statement M
+base-part-spec = tie.close (tie.spec
+    (λ c. search needs)
+    (λ c κs. search needs)
+    returns)

@@ -1,0 +1,13 @@
+-- `places::id_part` meets its contract.
+use native.Mathlib.Nat.{add-zero}
+use borrow.Author.Needs.{needs}
+use Rattle.places.proofs.id_part.Statement.{statement}
+use Rattle.places.proofs.id_part.Tie as tie
+
+returns : tie.Need-returns
+returns c = rw add-zero at (c .row-at .ensures)
+
+pub id-part-spec : {M : Type 1} → statement M
+id-part-spec = tie.close (tie.spec
+    (λ c κs. search needs)
+    returns)
