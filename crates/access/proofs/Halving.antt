@@ -1,7 +1,6 @@
 -- Laws of search by halving: one for each way, an induction, and what it finds. Nothing later sees how many turns it may take.
 use Prim.Native.Nat.{ℕ, zero, suc, _+_, _-_, _*_, _/_, _≤_, _<_}
 use mathlib.Core.List.{List}
-use mathlib.Core.Bool.{Bool, true, false}
 use mathlib.Core.Path.{_≡_, refl, sym, ap, _∙_}
 use mathlib.Core.Logic.{⊎-elim}
 use native.Mathlib.Omega.{arith}
@@ -17,7 +16,7 @@ use Rattle.order.specs.declared.Order.{Order}
 use Rattle.order.specs.declared.Order.the-variants.{Less, Equal, Greater}
 use Rattle.access.specs.Lookup.{found, pick, turn, mid, turns, halving, lower}
 use Rattle.access.specs.declared.Found.{Found}
-use Rattle.access.specs.declared.Found.the-variants.{At, Absent, Refused}
+use Rattle.access.specs.declared.Found.the-variants.{Absent, Refused}
 
 pub found-same : (m i : ℕ) → found m ≡ found i → m ≡ i
 found-same m i e = let z : _≡_ {A = Position} (record { 0 = m }) (record { 0 = i }) = cc in ap (λ (p : Position). p .0) z

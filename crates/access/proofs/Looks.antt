@@ -1,14 +1,14 @@
 -- The ways through a lookup.
-use Prim.Native.Nat.{ℕ, zero, suc, _+_, _*_, _≤_, _<_}
+use Prim.Native.Nat.{ℕ, zero, suc, _*_, _≤_, _<_}
 use mathlib.Core.List.{List}
-use mathlib.Core.Bool.{Bool, true, false, not}
-use mathlib.Core.Path.{_≡_, refl, sym, ap, _∙_}
+use mathlib.Core.Bool.{not}
+use mathlib.Core.Path.{_≡_, refl, ap, _∙_}
 use native.Mathlib.Omega.{arith}
 use lib.Dec.{ltb, eqb, lit<}
 use lib.ListN.{length, getD}
 use borrow.Author.Tests.{lt-ltb, le-ltb, ltb-false}
 use Rattle.types.specs.Refusals.{refusal}
-use Rattle.words.specs.Big.{be, number}
+use Rattle.words.specs.Big.{number}
 use Rattle.words.specs.First.{_if_else_}
 use Rattle.words.proofs.Rows.{hit, miss, pass, eq-not, ne-not}
 use Rattle.fit.specs.Fits.{fitRule, fanPart, idsPart}

@@ -1,25 +1,23 @@
 -- A lookup in an opened file finds exactly what the file stores.
-use Prim.Native.Nat.{ℕ, zero, suc, _+_, _-_, _*_, _/_, _≤_, _<_}
+use Prim.Native.Nat.{ℕ, zero, suc, _+_, _-_, _*_, _≤_, _<_}
 use mathlib.Core.List.{List}
-use mathlib.Core.Bool.{Bool, true, false, not}
+use mathlib.Core.Bool.{Bool, true, false}
 use mathlib.Core.Logic.{⊎-elim, inl, inr}
 use mathlib.Core.Path.{_≡_, refl, sym, ap, _∙_}
 use native.Mathlib.Omega.{arith}
 use native.Mathlib.Nat.{zero-add, add-zero}
-use lib.ListN.{length, getD, take, drop, length-drop}
-use lib.Seq.{getD-take, getD-drop, ext-getD, length-take-le}
-use lib.Dec.{ltb, eqb, lit<}
-use borrow.Author.Tests.{eqb-true, eqb-false, not-false, ltb-false}
+use lib.ListN.{length, getD, take, drop}
+use lib.Seq.{getD-take, getD-drop, ext-getD}
+use lib.Dec.{eqb}
+use borrow.Author.Tests.{eqb-true, eqb-false}
 use Rattle.words.specs.Big.{be, number, Bytes}
 use Rattle.words.proofs.Numbers.{bytes-part}
 use Rattle.order.proofs.Ordered.{same-bytes, same-number}
 use Rattle.words.proofs.Parts.{length-part}
-use Rattle.words.proofs.Rows.{pass}
-use Rattle.words.specs.First.{_if_else_}
 use Rattle.file.specs.Table.{opening}
-use Rattle.fit.specs.Fits.{fitRule, fanPart, idsPart, Fitted}
+use Rattle.fit.specs.Fits.{fanPart, idsPart}
 use Rattle.fit.specs.Facts.{Opened, Rises}
-use Rattle.access.specs.Lookup.{found, halving, keyOf, upper, lower, refuse, lookupOf, stored, leading, Ordered, Answers, Finds, Right}
+use Rattle.access.specs.Lookup.{found, halving, keyOf, upper, lower, lookupOf, stored, leading, Ordered, Answers, Finds, Right}
 use Rattle.file.specs.declared.File.{File}
 use Rattle.file.specs.declared.Opening.the-variants.{Open}
 use Rattle.access.specs.declared.Found.{Found}

@@ -2,28 +2,27 @@
 use Prim.Native.Nat.{ℕ, suc, _+_, _-_, _*_, _≤_, _<_}
 use mathlib.Core.List.{List}
 use mathlib.Core.Bool.{Bool, true, false, not}
-use mathlib.Core.Path.{_≡_, refl, sym, ap, ap₂, _∙_}
+use mathlib.Core.Path.{_≡_, sym, ap, _∙_}
 use native.Mathlib.Omega.{arith}
 use native.Mathlib.Nat.{mul-le-mul-right, suc-mul}
-use native.Mathlib.Numerals.{add-one}
 use lib.Dec.{ltb, eqb}
 use lib.ListN.{length, getD}
 use denote.Ref.{RefT}
-use borrow.Author.Tests.{lt-ltb, le-ltb, eqb-true, eq-eqb, ne-eqb}
+use borrow.Author.Tests.{lt-ltb, le-ltb, eqb-true, ne-eqb}
 use Rattle.words.specs.Big.{be, number}
 use Rattle.words.specs.First.{_if_else_}
 use Rattle.words.specs.Part.{RecordsOf}
 use Rattle.words.proofs.Adds.{before-next}
 use Rattle.words.proofs.Numbers.{be-part}
 use Rattle.words.proofs.Parts.{run-in, part-number, part-length, length-part}
-use Rattle.words.proofs.Rows.{hit, miss, eq-not, ne-not}
+use Rattle.words.proofs.Rows.{eq-not, ne-not}
 use Rattle.list.specs.List.{recordsOf, lengthAt}
 use Rattle.fit.specs.Facts.{Opened}
 use Rattle.fit.specs.Fits.{basePart}
 use Rattle.file.specs.declared.File.{File}
 use Rattle.file.specs.declared.Opening.the-variants.{Open}
 use Rattle.fit.proofs.Opens.{opened}
-use Rattle.rules.specs.Rules.{_or_, trailerOf, sumIn, sumRule, nameIn, nameRule}
+use Rattle.rules.specs.Rules.{_or_, sumIn, sumRule, nameIn, nameRule}
 use Rattle.rules.proofs.Entries.{or-hit, or-miss}
 use Rattle.rules.proofs.Trailers.{sum-plain, name-plain}
 use Rattle.graph.specs.Chain.{widthIn, startAt, partAt, openAt}
@@ -31,7 +30,6 @@ use Rattle.graph.proofs.Passing.{part-long}
 use Rattle.audit.specs.Files.{basesIn, baseIn, trailerAt}
 use Rattle.audit.specs.Rules.{alien, badBase, baseRule, headRule, headPlace}
 use Rattle.audit.specs.Scans.{Tabled, JudgedAs}
-use Rattle.audit.specs.declared.heads.Judged.{Judged}
 
 module _ (z : ℕ) (c l : List ℕ) where
   -- what an opened file has

@@ -1,36 +1,34 @@
 -- The commits of a chain's file in turn: the ways through one, what a loop over them keeps, and what it comes to.
-use Prim.Native.Nat.{ℕ, zero, suc, _+_, _-_, _*_, _≤_, _<_, min, max}
+use Prim.Native.Nat.{ℕ, _+_, _-_, _*_, _≤_, _<_, min, max}
 use mathlib.Core.List.{List}
-use mathlib.Core.Bool.{Bool, true, false, not}
-use mathlib.Core.Path.{_≡_, refl, sym, ap, ap₂, subst, _∙_}
+use mathlib.Core.Bool.{Bool, not}
+use mathlib.Core.Path.{_≡_, refl, sym, ap, _∙_}
 use native.Mathlib.Omega.{arith}
 use denote.Ref.{RefT}
-use lib.Dec.{ltb, eqb}
+use lib.Dec.{ltb}
 use lib.ListN.{length, getD, set, take, drop}
 use Rattle.words.specs.Part.{RecordsOf}
-use Rattle.words.specs.Sums.{before}
 use Rattle.words.proofs.Adds.{before-next}
 use Rattle.words.proofs.Parts.{length-part, records-in, run-in}
-use Rattle.words.proofs.Rows.{hit, miss, eq-not, ne-not}
+use Rattle.words.proofs.Rows.{eq-not, ne-not}
 use Rattle.words.specs.First.{_if_else_, first}
 use Rattle.list.specs.List.{recordsOf}
 use Rattle.chunk.specs.Index.{absent, startOf, sizeOf}
 use Rattle.fit.specs.Facts.{Opened}
-use Rattle.fit.specs.Fits.{fanPart, idsPart, rowsPart, edgePart}
 use Rattle.file.specs.declared.File.{File}
 use Rattle.file.specs.declared.Opening.the-variants.{Open}
 use Rattle.ancestry.specs.Graph.{highestIn, highestBelow, rightGen, cap}
 use Rattle.ancestry.specs.Counts.{keyOf, countsOf}
 use Rattle.ancestry.proofs.Scans.{Sofar, sofar-begins, sofar-next, sofar-stops, sofar-ends, highest-adds, counts-adds, counts-small}
-use Rattle.commit.specs.Commits.{commitOf, commitIn, rowOf}
+use Rattle.commit.specs.Commits.{commitIn, rowOf}
 use Rattle.steps.specs.Walks.{positions, firstWalk}
 use Rattle.parents.specs.Walks.{walkOf}
 use Rattle.commit.specs.declared.Commit.{Commit}
 use Rattle.commit.specs.declared.Asked.{Asked}
 use Rattle.commit.specs.declared.Asked.the-variants.{Commit as Is, Refused}
 use Rattle.types.specs.declared.refusal.Refusal.{Refusal}
-use Rattle.rules.specs.Rules.{_or_, entryRule, entryIn}
-use Rattle.traverse.specs.Traversal.{Parts, partsOf}
+use Rattle.rules.specs.Rules.{_or_, entryIn}
+use Rattle.traverse.specs.Traversal.{partsOf}
 use Rattle.traverse.specs.Scans.{Holds}
 use Rattle.rules.proofs.Entries.{or-hit, or-miss}
 use Rattle.traverse.proofs.Scanning.{entry-is, row-is}
@@ -45,7 +43,7 @@ use Rattle.audit.specs.declared.commits.Tried.{Tried}
 use Rattle.audit.specs.declared.commits.Scanned.{Scanned}
 use Rattle.audit.proofs.Heading.{is-open}
 use Rattle.audit.proofs.Meeting.{met-rule, met-count, met-highest}
-use Rattle.audit.proofs.Tabling.{count-of, few-positions}
+use Rattle.audit.proofs.Tabling.{few-positions}
 
 -- ── one commit ──
 

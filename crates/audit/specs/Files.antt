@@ -2,7 +2,6 @@
 -- c is the chain's bytes, l the list's, z the size of a record; i and j are files, k a commit's position in its file, g a graph position.
 use Prim.Native.Nat.{ℕ, _+_, _*_}
 use mathlib.Core.List.{List}
-use mathlib.Core.Bool.{Bool}
 use lib.ListN.{length}
 use Rattle.words.specs.Big.{be}
 use Rattle.fit.specs.Fits.{fanPart, idsPart, rowsPart, basePart}

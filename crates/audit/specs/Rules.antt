@@ -17,9 +17,7 @@ use Rattle.walk.specs.Lists.{walkIn}
 use Rattle.audit.specs.Files.{basesIn, baseIn, genIn, entryAt, trailerAt, genAt, keyAt}
 use Rattle.audit.specs.declared.Length.{Length}
 use Rattle.audit.specs.declared.Length.the-variants.{Steps, Cyclic}
-use Rattle.audit.specs.declared.Verdict.{Verdict}
 use Rattle.audit.specs.declared.Verdict.the-variants.{Accepted, Refused}
-use Rattle.audit.specs.declared.Summary.{Summary}
 use Rattle.audit.specs.declared.Verification.{Verification}
 
 -- the parents in order: 68 as met, and how the walk ends

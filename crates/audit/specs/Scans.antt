@@ -1,5 +1,5 @@
 -- What the private functions of verification hand each other. No rule of the paper is here.
-use Prim.Native.Nat.{ℕ, _+_, _*_, _≤_, _<_, max}
+use Prim.Native.Nat.{ℕ, _+_, _≤_, _<_, max}
 use mathlib.Core.Path.{_≡_}
 use mathlib.Core.List.{List}
 use mathlib.Core.Bool.{Bool, true, false, not}
@@ -14,7 +14,7 @@ use Rattle.file.specs.declared.File.{File}
 use Rattle.file.specs.declared.Opening.{Opening}
 use Rattle.file.specs.declared.Opening.the-variants.{Open, Refused}
 use Rattle.steps.specs.Walks.{Walked, ends, parent, positions}
-use Rattle.graph.specs.Chain.{startAt, partAt, openAt, countAt, firstAt, openFrom, Listed}
+use Rattle.graph.specs.Chain.{startAt, partAt, openAt, firstAt, openFrom, Listed}
 use Rattle.walk.specs.Lists.{walkIn}
 use Rattle.audit.specs.Files.{genIn, genAt, keyAt}
 use Rattle.audit.specs.Rules.{headRule, headPlace, commitRule, badCommit, commitRules}

@@ -1,21 +1,20 @@
 -- How each way through the index's table answers, and what a sound index gives.
 use Prim.Native.Nat.{ℕ, _+_, _-_, _*_, _<_, _≤_}
 use mathlib.Core.List.{List}
-use mathlib.Core.Bool.{Bool, true, false, not}
+use mathlib.Core.Bool.{Bool, true, false}
 use mathlib.Core.Path.{_≡_, refl, sym, ap, ap₂, _∙_}
 use mathlib.Core.Logic.{⊎-elim}
 use native.Mathlib.Omega.{arith}
-use lib.Dec.{ltb, leb, eqb, lit<}
+use lib.Dec.{ltb, leb, lit<}
 use lib.ListN.{length}
-use borrow.Author.Tests.{lt-ltb, le-ltb, ltb-true, ltb-false, leb-true, leb-false}
+use borrow.Author.Tests.{lt-ltb, le-ltb, ltb-true, ltb-false, leb-false}
 use Rattle.types.specs.Refusals.{refusal}
-use Rattle.words.specs.First.{_if_else_, first}
+use Rattle.words.specs.First.{first}
 use Rattle.words.proofs.Numbers.{le-or-lt}
-use Rattle.words.proofs.Searches.{first-none, first-hit, first-le}
+use Rattle.words.proofs.Searches.{first-none, first-hit}
 use Rattle.words.proofs.Rows.{hit, miss, pass, eq-via, ne-via}
-use Rattle.chunk.specs.Index.{chunks, idAt, offAt, isAt, rangeRule, entryRule, bad, badEntry, indexRule, indexPlace, chunkAt, pick, chunkOf, sizeOf, startOf, absent, Indexed, Lies}
-use Rattle.chunk.specs.declared.Chunk.{Chunk}
-use Rattle.chunk.specs.declared.Chunk.the-variants.{At, Absent}
+use Rattle.chunk.specs.Index.{chunks, idAt, offAt, isAt, rangeRule, entryRule, bad, badEntry, indexRule, indexPlace, chunkAt, pick, chunkOf, startOf, Indexed, Lies}
+use Rattle.chunk.specs.declared.Chunk.the-variants.{Absent}
 
 -- the ways through the table: c is the count, and e the first entry that is refused
 module _ (l : List ℕ) (c e : ℕ) (p : c ≡ chunks l) where

@@ -8,7 +8,6 @@ use lib.Dec.{ltb, leb, eqb}
 use Rattle.words.specs.Big.{be}
 use Rattle.words.specs.First.{_if_else_, first}
 use Rattle.types.specs.Refusals.{refusal}
-use Rattle.chunk.specs.declared.Span.{Span}
 use Rattle.chunk.specs.declared.Chunk.{Chunk}
 use Rattle.chunk.specs.declared.Chunk.the-variants.{At, Absent}
 use Rattle.chunk.specs.declared.Entry.{Entry}

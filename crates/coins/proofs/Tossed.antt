@@ -1,5 +1,5 @@
 -- K1 to K16 hold, by computation.
-use mathlib.Core.Path.{_≡_, refl}
+use mathlib.Core.Path.{refl}
 use lib.ListN.{replicate}
 use Rattle.words.specs.Big.{be}
 use Rattle.words.specs.First.{_if_else_}

@@ -1,17 +1,16 @@
 -- The ways through a parent word and a row of CDAT.
-use Prim.Native.Nat.{ℕ, zero, suc, _+_, _-_, _*_, _^_, _≤_, _<_}
+use Prim.Native.Nat.{ℕ, zero, suc, _+_, _-_, _*_, _≤_, _<_}
 use mathlib.Core.List.{List}
-use mathlib.Core.Bool.{Bool, true, false, not}
-use mathlib.Core.Path.{_≡_, refl, sym, ap, _∙_}
+use mathlib.Core.Path.{_≡_, refl, sym, _∙_}
 use native.Mathlib.Omega.{arith}
-use lib.Dec.{ltb, leb, eqb, lit<}
+use lib.Dec.{lit<}
 use lib.ListN.{length}
-use borrow.Author.Tests.{le-leb, lt-leb, le-ltb, ltb-false, eq-eqb, ne-eqb, eqb-true, not-false}
+use borrow.Author.Tests.{le-leb, lt-leb, ltb-false, eq-eqb, ne-eqb, eqb-true, not-false}
 use Rattle.types.specs.Refusals.{refusal}
 use Rattle.types.specs.declared.refusal.Refusal.{Refusal}
 use Rattle.words.proofs.Parts.{length-part}
-use Rattle.words.proofs.Rows.{miss, pass}
-use Rattle.fit.specs.Fits.{known, fitRule, askRule, rowsPart, Fitted}
+use Rattle.words.proofs.Rows.{pass}
+use Rattle.fit.specs.Fits.{askRule, rowsPart, Fitted}
 use Rattle.commit.specs.Commits.{pickEdge, edgeOf, commitOf, rowRule, refuseCommit, commitIn, rowOf, commitAt}
 use Rattle.file.specs.declared.File.{File}
 use Rattle.commit.specs.declared.Commit.{Commit}

@@ -1,14 +1,14 @@
 -- The search for a fan entry that falls.
 use Prim.Native.Nat.{ℕ, _+_, _*_, _<_, _≤_}
 use mathlib.Core.List.{List}
-use mathlib.Core.Bool.{Bool, true, false}
-use mathlib.Core.Path.{_≡_, refl}
+use mathlib.Core.Bool.{true, false}
+use mathlib.Core.Path.{_≡_}
 use native.Mathlib.Omega.{arith}
 use borrow.Author.Tests.{lt-ltb, le-ltb}
 use Rattle.words.specs.Big.{be}
-use Rattle.words.specs.First.{_if_else_, first}
+use Rattle.words.specs.First.{_if_else_}
 use Rattle.words.proofs.Searches.{first-begins, first-stop, first-step, first-ends}
-use Rattle.file.specs.Table.{falls, peak, peakBy}
+use Rattle.file.specs.Table.{falls}
 
 -- a is the next entry and b this one
 pub falls-yes : (p : List ℕ) (i a b : ℕ) → a ≡ be 4 p (4 * (i + 1)) → b ≡ be 4 p (4 * i) → a < b → falls p i ≡ true

@@ -1,12 +1,12 @@
 -- The stages of opening: how a stage answers, and what one that refuses nothing leaves.
-use Prim.Native.Nat.{ℕ, zero, suc, _+_, _-_, _*_, _/_, _%_, _<_, _≤_}
+use Prim.Native.Nat.{ℕ, zero, suc, _+_, _-_, _/_, _<_, _≤_}
 use mathlib.Core.List.{List}
-use mathlib.Core.Bool.{Bool, true, false, not}
-use mathlib.Core.Path.{_≡_, refl, sym, ap, _∙_}
+use mathlib.Core.Bool.{not}
+use mathlib.Core.Path.{_≡_, refl, ap, _∙_}
 use native.Mathlib.Omega.{arith}
 use native.Mathlib.Nat.{le-refl, mul-one}
 use lib.Dec.{ltb, eqb, lit<}
-use lib.ListN.{length, take, drop}
+use lib.ListN.{length}
 use denote.Ref.{RefT}
 use borrow.Author.Tests.{lt-ltb, le-ltb, ltb-false}
 use Rattle.types.specs.Refusals.{refusal}
@@ -17,9 +17,9 @@ use Rattle.words.proofs.Parts.{records-in}
 use Rattle.words.proofs.Rows.{hit, miss, pass}
 use Rattle.chunk.specs.Index.{startOf, sizeOf}
 use Rattle.chunk.specs.declared.Chunk.{Chunk}
-use Rattle.file.specs.Table.{width, header, peak, peakBy, partOf, refuse}
+use Rattle.file.specs.Table.{width, header, partOf, refuse}
 use Rattle.file.specs.declared.Opening.{Opening}
-use Rattle.file.specs.declared.Opening.the-variants.{Open, Refused}
+use Rattle.file.specs.declared.Opening.the-variants.{Refused}
 
 -- a stage refuses with m at q; a stage refuses nothing
 pub refuse-yes : (n m p q : ℕ) (rest r : Opening) → m ≡ n → q ≡ p → 0 < m → r ≡ Refused (refusal m q) → r ≡ refuse n p rest

@@ -2,7 +2,7 @@
 -- order; 0 is no refusal. The fields are gitformat-commit-graph's: HEADER, OIDF, OIDL, CDAT, EDGE, BASE, TRAILER. w is the width of an id.
 use Prim.Native.Nat.{ℕ, zero, suc, _+_, _-_, _*_, _/_, _%_}
 use mathlib.Core.List.{List}
-use mathlib.Core.Bool.{Bool, true, false, not, _&&_}
+use mathlib.Core.Bool.{Bool, true, not, _&&_}
 use lib.ListN.{length, getD, take, drop}
 use lib.Dec.{ltb, eqb}
 use Rattle.words.specs.Big.{be}

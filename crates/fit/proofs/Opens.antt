@@ -2,11 +2,10 @@
 use Prim.Native.Nat.{ℕ, zero, suc, _+_, _-_, _*_, _/_, _%_, _<_, _≤_}
 use mathlib.Core.List.{List}
 use mathlib.Core.Bool.{Bool, true, false, not, _&&_}
-use mathlib.Core.Path.{_≡_, refl, sym, ap, _∙_}
-use mathlib.Core.Logic.{⊎-elim}
+use mathlib.Core.Path.{_≡_, refl, ap}
 use native.Mathlib.Omega.{arith}
 use native.Mathlib.Nat.{div-add-mod', zero-mul}
-use borrow.Author.Tests.{ltb-true, ltb-false, eqb-true, not-false}
+use borrow.Author.Tests.{ltb-false, eqb-true, not-false}
 use lib.Dec.{ltb, eqb, lit<}
 use lib.ListN.{length, take, drop}
 use Rattle.types.specs.Refusals.{refusal}
@@ -15,7 +14,7 @@ use Rattle.words.specs.Big.{be}
 use Rattle.words.specs.First.{_if_else_, first}
 use Rattle.words.proofs.Searches.{first-none}
 use Rattle.words.proofs.Rows.{pass}
-use Rattle.chunk.specs.Index.{chunks, offAt, chunkOf, absent, startOf, sizeOf, indexRule, Indexed}
+use Rattle.chunk.specs.Index.{chunks, offAt, absent, startOf, sizeOf, indexRule, Indexed}
 use Rattle.chunk.specs.declared.Chunk.{Chunk}
 use Rattle.chunk.specs.declared.Chunk.the-variants.{At, Absent}
 use Rattle.chunk.proofs.Sound.{indexed, lies}

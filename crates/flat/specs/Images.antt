@@ -4,7 +4,6 @@ use Prim.Native.Nat.{ℕ, _-_}
 use mathlib.Core.List.{List}
 use mathlib.Core.Bool.{Bool, true, false}
 use lib.Dec.{eqb}
-use Rattle.types.specs.declared.refusal.Refusal.{Refusal}
 use Rattle.name.specs.declared.Name.{Name as Named}
 use Rattle.access.specs.declared.Asking.{Asking}
 use Rattle.access.specs.declared.Asking.the-variants.{Fine, Refused as Met}

@@ -1,7 +1,6 @@
 -- A message fed in pieces, over the step that one block makes: two pieces are one, and what is put behind a message goes by the count kept.
 use mathlib.Core.Path.{_≡_, refl, sym, ap, ap₂, _∙_}
 use Prim.Native.Nat.{ℕ, zero, suc, _+_, _-_, _*_, _/_, _%_, _^_, _≤_, _<_}
-use mathlib.Core.Bool.{Bool, true, false}
 use mathlib.Core.List.{List, [], _∷_, _++_, append-assoc, append-nil}
 use native.Mathlib.Nat.{div-one, zero-add, sub-zero, zero-sub, suc-sub-suc, not-suc-le-zero, le-of-suc-le-suc}
 use native.Mathlib.Numerals.{add-one, one-add}

@@ -1,10 +1,10 @@
 -- What the tests of the list say of numbers that were read, and the ways through its rules.
-use Prim.Native.Nat.{ℕ, suc, _+_, _-_, _*_, _/_, _%_, _≤_, _<_}
+use Prim.Native.Nat.{ℕ, suc, _+_, _-_, _*_, _/_, _≤_, _<_}
 use mathlib.Core.List.{List}
 use mathlib.Core.Bool.{Bool, true, false, not, _&&_}
 use mathlib.Core.Path.{_≡_, refl, sym, ap, ap₂, _∙_}
 use native.Mathlib.Omega.{arith}
-use native.Mathlib.Nat.{mul-le-mul, div-mul-le-self, suc-mul, mul-le-mul-right}
+use native.Mathlib.Nat.{mul-le-mul, suc-mul, mul-le-mul-right}
 use lib.Dec.{ltb, eqb, lit<}
 use lib.ListN.{length}
 use denote.Ref.{RefT}

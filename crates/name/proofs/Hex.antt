@@ -1,12 +1,11 @@
 -- The hex digits of a name.
-use Prim.Native.Nat.{ℕ, suc, _+_, _*_, _<_, _≤_}
-use mathlib.Core.List.{List, [], _∷_, _++_}
-use mathlib.Core.Bool.{Bool, true, false, not}
-use mathlib.Core.Path.{_≡_, refl, sym, ap, _∙_}
+use Prim.Native.Nat.{ℕ, _+_, _*_, _<_, _≤_}
+use mathlib.Core.List.{List}
+use mathlib.Core.Bool.{true, false}
+use mathlib.Core.Path.{_≡_}
 use native.Mathlib.Omega.{arith}
-use lib.Dec.{ltb, eqb}
-use lib.ListN.{length, getD}
-use borrow.Author.Tests.{lt-ltb, le-ltb, eq-eqb, ne-eqb, eqb-true, ltb-false, not-false}
+use lib.ListN.{getD}
+use borrow.Author.Tests.{lt-ltb, le-ltb, eqb-true, ltb-false, not-false}
 use Rattle.words.specs.First.{first}
 use Rattle.words.proofs.Rows.{other}
 use Rattle.words.proofs.Searches.{first-begins, first-stop, first-step, first-ends, first-none}

@@ -1,20 +1,15 @@
 -- The parent list: a list that is written from the front as a walk is followed, and the ways through the answer.
 use Prim.Native.Nat.{ℕ, zero, suc, _+_, _≤_, _<_}
 use mathlib.Core.List.{List, [], _∷_, _++_, append-nil}
-use mathlib.Core.Bool.{Bool, true, false, not}
-use mathlib.Core.Path.{_≡_, refl, sym, ap, subst, _∙_}
+use mathlib.Core.Path.{_≡_, refl, sym, ap, _∙_}
 use native.Mathlib.Omega.{arith}
 use native.Mathlib.Numerals.{add-one}
-use lib.Dec.{ltb}
 use lib.ListN.{length, set, take, drop, length-set, take-append-drop, drop-of-length-le}
 use lib.Seq.{take-all}
 use borrow.Author.Tests.{lt-ltb, le-ltb}
 use Rattle.types.specs.Refusals.{refusal}
 use Rattle.types.specs.declared.refusal.Refusal.{Refusal}
-use Rattle.chunk.specs.Index.{absent}
-use Rattle.fit.specs.Fits.{edgePart}
 use Rattle.file.specs.declared.File.{File}
-use Rattle.commit.specs.Commits.{rowOf}
 use Rattle.steps.specs.Walks.{Walked, ends, parent, positions}
 use Rattle.parents.specs.Walks.{walkOf, totalOf}
 use Rattle.parents.specs.Lists.{overlay, pickTotal, fitTotal, listOf, heldBy, heldOf}

@@ -2,7 +2,7 @@
 use Prim.Native.Nat.{ℕ, zero, suc, _+_, _*_, _≤_, _<_}
 use mathlib.Core.List.{List}
 use mathlib.Core.Bool.{Bool, true, false}
-use mathlib.Core.Path.{_≡_, refl, sym, ap, _∙_}
+use mathlib.Core.Path.{_≡_, refl, ap, _∙_}
 use native.Mathlib.Omega.{arith}
 use lib.ListN.{length}
 use denote.Ref.{RefT}
@@ -12,7 +12,7 @@ use Rattle.words.specs.First.{_if_else_}
 use Rattle.words.specs.Part.{PartOf}
 use Rattle.types.specs.Refusals.{refusal}
 use Rattle.types.specs.declared.refusal.Refusal.{Refusal}
-use Rattle.fit.specs.Fits.{askRule, AskedPart, Fitted}
+use Rattle.fit.specs.Fits.{askRule, Fitted}
 use Rattle.file.specs.declared.File.{File}
 use Rattle.fit.proofs.Fitting.{Answered, answered, run-within}
 use Rattle.access.specs.Lookup.{asking}

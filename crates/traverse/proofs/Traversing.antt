@@ -4,15 +4,15 @@ use mathlib.Core.List.{List}
 use mathlib.Core.Bool.{Bool, true, false}
 use mathlib.Core.Path.{_≡_, refl, sym, ap, ap₂, _∙_}
 use native.Mathlib.Omega.{arith}
-use lib.Dec.{eqb, lit<}
+use lib.Dec.{eqb}
 use lib.ListN.{length}
-use borrow.Author.Tests.{lt-ltb, le-ltb, ne-eqb, not-false}
+use borrow.Author.Tests.{lt-ltb, le-ltb, ne-eqb}
 use Rattle.types.specs.Refusals.{refusal}
 use Rattle.types.specs.declared.refusal.Refusal.{Refusal}
 use Rattle.words.specs.First.{_if_else_}
-use Rattle.words.proofs.Rows.{hit, miss, pass, eq-not, ne-not}
+use Rattle.words.proofs.Rows.{hit, miss, eq-not, ne-not}
 use Rattle.list.specs.List.{listRule, listPlace}
-use Rattle.fit.specs.Fits.{known, fitRule, Fitted}
+use Rattle.fit.specs.Fits.{known}
 use Rattle.fit.specs.Facts.{Opened}
 use Rattle.file.specs.Table.{opening}
 use Rattle.file.specs.declared.File.{File}
@@ -26,7 +26,6 @@ use Rattle.traverse.specs.Scans.{ScannedAs}
 use Rattle.traverse.specs.declared.commits.Scanned.{Scanned}
 use Rattle.traverse.specs.declared.Verdict.the-variants.{Accepted}
 use Rattle.traverse.specs.declared.Traversal.{Traversal}
-use Rattle.rules.proofs.Entries.{or-hit, or-miss}
 use Rattle.rules.proofs.Trailers.{sum-plain, name-plain}
 
 -- ── the list ──

@@ -11,7 +11,7 @@ use Rattle.ancestry.specs.Graph.{highestBelow}
 use Rattle.ancestry.specs.Counts.{keyOf, countsOf, lowestBelow}
 use Rattle.list.specs.List.{listRule, listPlace}
 use Rattle.chunk.specs.Index.{absent}
-use Rattle.fit.specs.Fits.{fitRule, fanPart, idsPart, rowsPart, edgePart}
+use Rattle.fit.specs.Fits.{fanPart, idsPart, rowsPart, edgePart}
 use Rattle.file.specs.Table.{opening}
 use Rattle.file.specs.declared.File.{File}
 use Rattle.file.specs.declared.Opening.{Opening}

@@ -1,7 +1,6 @@
 -- Laws of sums, and of positions in things that lie end to end: each position below the sum stands in exactly one, and back.
 use Prim.Native.Nat.{ℕ, zero, suc, _+_, _-_, _*_, _≤_, _<_}
-use mathlib.Core.Bool.{Bool, true, false}
-use mathlib.Core.Path.{_≡_, refl, sym, ap, _∙_}
+use mathlib.Core.Path.{_≡_, refl}
 use mathlib.Core.Logic.{⊎-elim}
 use native.Mathlib.Omega.{arith}
 use native.Mathlib.Nat.{eq-or-lt-of-le, le-refl, suc-mul}
@@ -10,7 +9,7 @@ use borrow.Author.Tests.{lt-ltb, le-ltb, ltb-true, ltb-false}
 use Rattle.words.specs.First.{first}
 use Rattle.words.specs.Sums.{before, upTo, whichOf, withinOf}
 use Rattle.words.proofs.Numbers.{le-or-lt}
-use Rattle.words.proofs.Searches.{first-hit, first-before, first-is, first-le}
+use Rattle.words.proofs.Searches.{first-hit, first-before, first-is}
 
 module _ (count : ℕ → ℕ) where
   pub before-next : (k : ℕ) → before count (k + 1) ≡ before count k + count k

@@ -14,10 +14,6 @@ returns-2 c = asking-none _ (c .if1 .left)
 
 pub asked-spec : {M : Type 1} → statement M
 asked-spec = tie.close (tie.spec
-    (λ
-    c
-    κs.
-    search
-    needs)
+    (λ c κs. search needs)
     returns
     returns-2)

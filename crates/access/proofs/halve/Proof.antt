@@ -55,49 +55,18 @@ halve-spec =
     Inv-loop
     μ-loop
     loop-holds
-    (λ
-    c.
-    omega
-    arith)
-    (λ
-    c.
-    omega
-    arith)
-    (λ
-    c.
-    omega
-    arith)
+    (λ c. omega arith)
+    (λ c. omega arith)
+    (λ c. omega arith)
     mul-compare
-    (λ
-    c
-    κs.
-    search
-    needs)
-    (λ
-    c.
-    search
-    needs)
-    (λ
-    c.
-    omega
-    arith)
+    (λ c κs. search needs)
+    (λ c. search needs)
+    (λ c. omega arith)
     loop-again
-    (λ
-    c.
-    search
-    needs)
+    (λ c. search needs)
     returns
-    (λ
-    c.
-    search
-    needs)
-    (λ
-    c.
-    omega
-    arith)
-    (λ
-    c.
-    omega
-    arith)
+    (λ c. search needs)
+    (λ c. omega arith)
+    (λ c. omega arith)
     loop-again-2
     returns-2)

@@ -1,9 +1,8 @@
 -- `access::id_at` meets its contract.
-use Prim.Native.Nat.{_+_}
 use mathlib.Core.Path.{refl}
 use native.Mathlib.Omega.{arith}
 use denote.Ref.{now}
-use Rattle.fit.proofs.Fitting.{Answered, answered, part-none, row-part, run-within}
+use Rattle.fit.proofs.Fitting.{answered, part-none, row-part, run-within}
 use borrow.Author.Needs.{needs}
 use Rattle.access.proofs.id_at.Statement.{statement}
 use Rattle.access.proofs.id_at.Tie as tie

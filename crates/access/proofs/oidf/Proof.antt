@@ -1,5 +1,4 @@
 -- `access::oidf` meets its contract.
-use native.Mathlib.Omega.{arith}
 use Rattle.words.proofs.Parts.{records-in}
 use borrow.Author.Needs.{needs}
 use Rattle.access.proofs.oidf.Statement.{statement}

@@ -10,14 +10,6 @@ returns c = c .asked .ensures ∙ ap asking (c .before .ask .ensures)
 
 pub which-spec : {M : Type 1} → statement M
 which-spec = tie.close (tie.spec
-    (λ
-    c
-    κs.
-    search
-    needs)
-    (λ
-    c
-    κs.
-    search
-    needs)
+    (λ c κs. search needs)
+    (λ c κs. search needs)
     returns)

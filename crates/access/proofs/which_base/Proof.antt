@@ -10,18 +10,7 @@ returns c = c .asked .ensures ∙ ap asking (c .before .ask .ensures)
 
 pub which-base-spec : {M : Type 1} → statement M
 which-base-spec = tie.close (tie.spec
-    (λ
-    c.
-    search
-    needs)
-    (λ
-    c
-    κs.
-    search
-    needs)
-    (λ
-    c
-    κs.
-    search
-    needs)
+    (λ c. search needs)
+    (λ c κs. search needs)
+    (λ c κs. search needs)
     returns)

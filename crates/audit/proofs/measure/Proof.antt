@@ -1,8 +1,4 @@
 -- `audit::measure` meets its contract.
-use mathlib.Core.Bool.{cond}
-use mathlib.Core.Path.{_≡_, refl, sym, _∙_}
-use native.Mathlib.Omega.{arith}
-use lib.Dec.{eqb}
 use borrow.Author.Tests.{eq-eqb, ne-eqb}
 use Rattle.ancestry.specs.Graph.{lengthOf, cap}
 use Rattle.audit.specs.Rules.{lengthBy}

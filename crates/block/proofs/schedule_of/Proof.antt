@@ -1,10 +1,10 @@
 -- `block::schedule_of` meets its contract.
 use Prim.Native.Nat.{_≤_, _-_}
-use mathlib.Core.Path.{_≡_, refl, _∙_, sym}
+use mathlib.Core.Path.{_≡_, _∙_}
 use native.Mathlib.Omega.{arith}
 use borrow.Author.Needs.{needs}
 use lib.ListN.{length, take, length-set}
-use Rattle.block.specs.Fips.{schedule, next}
+use Rattle.block.specs.Fips.{schedule}
 use Rattle.block.proofs.Schedule.{stored, next-high}
 use Rattle.words.proofs.Fills.{whole}
 use Rattle.block.proofs.schedule_of.Statement.{statement}

@@ -1,6 +1,5 @@
 -- `commit::cdat` meets its contract.
 use Prim.Native.Nat.{_+_}
-use native.Mathlib.Omega.{arith}
 use Rattle.words.proofs.Parts.{records-in}
 use borrow.Author.Needs.{needs}
 use Rattle.commit.proofs.cdat.Statement.{statement}

@@ -21,16 +21,8 @@ returns-2 c =
 
 pub commit-at-spec : {M : Type 1} → statement M
 commit-at-spec = tie.close (tie.spec
-    (λ
-    c
-    κs.
-    search
-    needs)
-    (λ
-    c
-    κs.
-    search
-    needs)
+    (λ c κs. search needs)
+    (λ c κs. search needs)
     returns
     row-at-requires
     returns-2)

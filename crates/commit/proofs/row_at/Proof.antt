@@ -30,15 +30,8 @@ returns c = c .fields .ensures ∙ ap (λ (p : List ℕ). commitOf p (c .before 
 pub row-at-spec : {M : Type 1} → statement M
 row-at-spec =
     tie.close (tie.spec
-    (λ
-    c
-    κs.
-    search
-    needs)
-    (λ
-    c.
-    search
-    needs)
+    (λ c κs. search needs)
+    (λ c. search needs)
     mul-fields
     add-fields-2
     fields-requires

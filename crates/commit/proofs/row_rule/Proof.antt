@@ -29,10 +29,7 @@ returns-3 c = search rows depth 12
 pub row-rule-spec : {M : Type 1} → statement M
 row-rule-spec = tie.close (tie.spec
     returns
-    (λ
-    c.
-    search
-    needs)
+    (λ c. search needs)
     mul-if2
     add-if2
     returns-2

@@ -3,7 +3,7 @@ use Prim.Native.Nat.{_+_}
 use mathlib.Core.Path.{refl}
 use native.Mathlib.Omega.{arith}
 use denote.Ref.{now}
-use Rattle.fit.proofs.Fitting.{Answered, answered, part-none, row-part, run-within}
+use Rattle.fit.proofs.Fitting.{answered, part-none, row-part, run-within}
 use borrow.Author.Needs.{needs}
 use Rattle.commit.proofs.tree_at.Statement.{statement}
 use Rattle.commit.proofs.tree_at.Tie as tie

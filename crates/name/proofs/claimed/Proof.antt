@@ -54,47 +54,18 @@ claimed-spec =
     Inv-loop
     μ-loop
     loop-holds
-    (λ
-    c.
-    omega
-    arith)
-    (λ
-    c.
-    omega
-    arith)
+    (λ c. omega arith)
+    (λ c. omega arith)
     shared-slice-read-digit
-    (λ
-    c
-    κs.
-    search
-    needs)
-    (λ
-    c.
-    omega
-    arith)
-    (λ
-    c.
-    omega
-    arith)
+    (λ c κs. search needs)
+    (λ c. omega arith)
+    (λ c. omega arith)
     shared-slice-read-digit-2
-    (λ
-    c
-    κs.
-    search
-    needs)
+    (λ c κs. search needs)
     mul-out
     add-out
-    (λ
-    c.
-    omega
-    arith)
-    (λ
-    c.
-    omega
-    arith)
-    (λ
-    c.
-    omega
-    arith)
+    (λ c. omega arith)
+    (λ c. omega arith)
+    (λ c. omega arith)
     loop-again
     returns)

@@ -41,15 +41,9 @@ digit-spec =
     returns
     returns-2
     returns-3
-    (λ
-    c.
-    search
-    needs)
+    (λ c. search needs)
     returns-4
     returns-5
-    (λ
-    c.
-    search
-    needs)
+    (λ c. search needs)
     returns-6
     returns-7)

@@ -65,52 +65,18 @@ pub kind-spec : {M : Type 1} → statement M
 kind-spec =
     tie.close
     (tie.spec
-    (λ
-    c.
-    search
-    needs)
-    (λ
-    c
-    κs.
-    search
-    needs)
+    (λ c. search needs)
+    (λ c κs. search needs)
     returns
-    (λ
-    c.
-    search
-    needs)
-    (λ
-    c
-    κs.
-    search
-    needs)
-    (λ
-    c
-    κs.
-    search
-    needs)
+    (λ c. search needs)
+    (λ c κs. search needs)
+    (λ c κs. search needs)
     returns-2
-    (λ
-    c.
-    search
-    needs)
-    (λ
-    c.
-    search
-    needs)
+    (λ c. search needs)
+    (λ c. search needs)
     returns-3
-    (λ
-    c.
-    search
-    needs)
-    (λ
-    c
-    κs.
-    search
-    needs)
-    (λ
-    c.
-    search
-    needs)
+    (λ c. search needs)
+    (λ c κs. search needs)
+    (λ c. search needs)
     returns-4
     returns-5)

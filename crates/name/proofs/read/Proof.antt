@@ -29,11 +29,7 @@ returns-2 c =
 
 pub read-spec : {M : Type 1} → statement M
 read-spec = tie.close (tie.spec
-    (λ
-    c
-    κs.
-    search
-    needs)
+    (λ c κs. search needs)
     claimed-requires
     returns
     returns-2)

@@ -3,7 +3,6 @@ use Prim.Native.Nat.{_-_, _≤_}
 use mathlib.Core.Path.{_≡_, refl, sym, _∙_}
 use native.Mathlib.Omega.{arith}
 use borrow.Author.Needs.{needs}
-use lib.ListN.{length}
 use Rattle.words.specs.Big.{be}
 use Rattle.order.proofs.Ordered.{compare-less, compare-greater, compare-on, compare-equal, compare-longer}
 use Rattle.order.proofs.compare.Statement.{statement}

@@ -1,6 +1,6 @@
 -- `order::zero` meets its contract.
 use native.Mathlib.Nat.{zero-add}
-use Prim.Native.Nat.{_+_, _-_, _≤_, _<_, ℕ}
+use Prim.Native.Nat.{_+_, _-_, _≤_, _<_}
 use native.Mathlib.Omega.{arith}
 use mathlib.Core.Path.{_≡_, refl, sym}
 use lib.ListN.{length, getD}

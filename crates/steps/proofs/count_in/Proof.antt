@@ -45,25 +45,12 @@ count-in-spec =
     Inv-loop
     μ-loop
     loop-holds
-    (λ
-    c
-    κs.
-    search
-    needs)
-    (λ
-    c.
-    search
-    needs)
+    (λ c κs. search needs)
+    (λ c. search needs)
     add-n
     loop-less
     loop-again
-    (λ
-    c.
-    search
-    needs)
+    (λ c. search needs)
     returns
-    (λ
-    c.
-    search
-    needs)
+    (λ c. search needs)
     returns-2)

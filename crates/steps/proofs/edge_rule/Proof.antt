@@ -35,18 +35,9 @@ edge-rule-spec =
     tie.close (tie.spec
     returns
     returns-2
-    (λ
-    c.
-    search
-    needs)
+    (λ c. search needs)
     returns-3
-    (λ
-    c.
-    search
-    needs)
-    (λ
-    c.
-    search
-    needs)
+    (λ c. search needs)
+    (λ c. search needs)
     returns-4
     returns-5)

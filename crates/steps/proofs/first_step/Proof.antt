@@ -29,55 +29,17 @@ pub first-step-spec : {M : Type 1} → statement M
 first-step-spec =
     tie.close
     (tie.spec
-    (λ
-    c.
-    search
-    needs)
-    (λ
-    c.
-    search
-    needs)
-    (λ
-    c
-    κs.
-    search
-    needs)
-    (λ
-    c.
-    search
-    needs)
-    (λ
-    c
-    κs.
-    search
-    needs)
-    (λ
-    c.
-    search
-    needs)
-    (λ
-    c
-    κs.
-    search
-    needs)
-    (λ
-    c.
-    search
-    needs)
-    (λ
-    c
-    κs.
-    search
-    needs)
-    (λ
-    c.
-    search
-    needs)
-    (λ
-    c
-    κs.
-    search
-    needs)
+    (λ c. search needs)
+    (λ c. search needs)
+    (λ c κs. search needs)
+    (λ c. search needs)
+    (λ c κs. search needs)
+    (λ c. search needs)
+    (λ c κs. search needs)
+    (λ c. search needs)
+    (λ c κs. search needs)
+    (λ c. search needs)
+    (λ c κs. search needs)
     returns
     returns-2
     returns-3

@@ -1,10 +1,7 @@
 -- `audit::heads::head` meets its contract.
-use mathlib.Core.Path.{_≡_, sym, ap, _∙_}
-use native.Mathlib.Omega.{arith}
+use mathlib.Core.Path.{_∙_}
 use denote.Ref.{now}
-use lib.ListN.{length}
 use Rattle.words.proofs.Parts.{records-in}
-use Rattle.fit.specs.Fits.{basePart}
 use Rattle.audit.proofs.Heading.{is-open, head-bases, head-base, head-sum, head-name}
 use borrow.Author.Needs.{needs}
 use Rattle.audit.proofs.heads.head.Statement.{statement}

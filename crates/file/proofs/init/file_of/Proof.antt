@@ -11,24 +11,8 @@ returns c = simp (c .start4 .ensures, c .before .start3 .ensures, c .before .bef
 pub file-of-spec : {M : Type 1} → statement M
 file-of-spec =
     tie.close (tie.spec
-    (λ
-    c
-    κs.
-    search
-    needs)
-    (λ
-    c
-    κs.
-    search
-    needs)
-    (λ
-    c
-    κs.
-    search
-    needs)
-    (λ
-    c
-    κs.
-    search
-    needs)
+    (λ c κs. search needs)
+    (λ c κs. search needs)
+    (λ c κs. search needs)
+    (λ c κs. search needs)
     returns)

@@ -25,22 +25,10 @@ pub base-rules-spec : {M : Type 1} → statement M
 base-rules-spec =
     tie.close
     (tie.spec
-    (λ
-    c
-    κs.
-    search
-    needs)
+    (λ c κs. search needs)
     returns
-    (λ
-    c
-    κs.
-    search
-    needs)
+    (λ c κs. search needs)
     returns-2
-    (λ
-    c
-    κs.
-    search
-    needs)
+    (λ c κs. search needs)
     returns-3
     returns-4)

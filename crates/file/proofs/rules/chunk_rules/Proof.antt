@@ -49,52 +49,21 @@ pub chunk-rules-spec : {M : Type 1} → statement M
 chunk-rules-spec =
     tie.close
     (tie.spec
-    (λ
-    c
-    κs.
-    search
-    needs)
+    (λ c κs. search needs)
     returns
-    (λ
-    c.
-    search
-    needs)
-    (λ
-    c
-    κs.
-    search
-    needs)
+    (λ c. search needs)
+    (λ c κs. search needs)
     returns-2
-    (λ
-    c
-    κs.
-    search
-    needs)
+    (λ c κs. search needs)
     returns-3
-    (λ
-    c
-    κs.
-    search
-    needs)
+    (λ c κs. search needs)
     returns-4
-    (λ
-    c
-    κs.
-    search
-    needs)
+    (λ c κs. search needs)
     returns-5
-    (λ
-    c
-    κs.
-    search
-    needs)
+    (λ c κs. search needs)
     returns-6
     returns-7
-    (λ
-    c
-    κs.
-    search
-    needs)
+    (λ c κs. search needs)
     returns-8
     returns-9
     returns-10)

@@ -36,33 +36,13 @@ fan-spec =
     (tie.spec
     Inv-loop
     μ-loop
-    (λ
-    c
-    κs.
-    search
-    needs)
+    (λ c κs. search needs)
     loop-holds
-    (λ
-    c.
-    omega
-    arith)
-    (λ
-    c.
-    omega
-    arith)
-    (λ
-    c
-    κs.
-    search
-    needs)
+    (λ c. omega arith)
+    (λ c. omega arith)
+    (λ c κs. search needs)
     returns
-    (λ
-    c.
-    omega
-    arith)
-    (λ
-    c.
-    omega
-    arith)
+    (λ c. omega arith)
+    (λ c. omega arith)
     loop-again
     returns-2)

@@ -17,10 +17,6 @@ returns-2 c = miss (peak (now (c .before .before .args .p))) _ 255 255 (c .if1 .
 
 pub fan-by-spec : {M : Type 1} → statement M
 fan-by-spec = tie.close (tie.spec
-    (λ
-    c
-    κs.
-    search
-    needs)
+    (λ c κs. search needs)
     returns
     returns-2)

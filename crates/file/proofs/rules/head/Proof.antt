@@ -35,20 +35,10 @@ head-spec =
     (tie.spec
     returns
     returns-2
-    (λ
-    c
-    κs.
-    search
-    needs)
+    (λ c κs. search needs)
     returns-3
-    (λ
-    c.
-    search
-    needs)
+    (λ c. search needs)
     returns-4
-    (λ
-    c.
-    search
-    needs)
+    (λ c. search needs)
     returns-5
     returns-6)

@@ -10,13 +10,6 @@ returns c = ap (λ (n : ℕ). n % c .before .args .w) (c .size .ensures)
 
 pub over-spec : {M : Type 1} → statement M
 over-spec = tie.close (tie.spec
-    (λ
-    c
-    κs.
-    search
-    needs)
-    (λ
-    c.
-    search
-    needs)
+    (λ c κs. search needs)
+    (λ c. search needs)
     returns)
