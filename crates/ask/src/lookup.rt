@@ -12,7 +12,6 @@ use types::refusal::ID_WIDTH;
 use types::refusal::Refusal;
 use words::part::part;
 ghost use mathlib.Core.Path.{_≡_};
-ghost use mathlib.Core.Bool.{Bool};
 ghost use Prim.Native.Nat.{ℕ, _+_, _<_};
 ghost use Rattle.access.specs.Lookup.{found, lookupOf as lookupIn};
 ghost use Rattle.graph.specs.Chain.{Listed};

@@ -5,8 +5,7 @@ use types::refusal::INDEX_REPEATED;
 use words::big::be32;
 use words::big::be64;
 ghost use mathlib.Core.Path.{_≡_};
-ghost use Prim.Native.Nat.{_+_, _*_, _≤_, _<_};
-ghost use lib.ListN.{length};
+ghost use Prim.Native.Nat.{_+_, _*_, _<_};
 ghost use Rattle.words.specs.First.{first};
 ghost use Rattle.chunk.specs.Index.{chunks, idAt, offAt, isAt, rangeRule, entryRule, bad};
 

@@ -22,12 +22,12 @@ use types::refusal::FAN_FALLS;
 use words::big::be32;
 use words::part::part;
 ghost use mathlib.Core.Path.{_≡_};
-ghost use mathlib.Core.Bool.{Bool, true};
-ghost use Prim.Native.Nat.{_-_, _<_, _≤_};
+ghost use mathlib.Core.Bool.{true};
+ghost use Prim.Native.Nat.{_-_, _<_};
 ghost use lib.ListN.{length};
 ghost use Rattle.chunk.specs.Index.{chunks, offAt, Indexed};
 ghost use Rattle.types.specs.Refusals.{refusal};
-ghost use Rattle.file.specs.Table.{width, indexOf, partOf, fileOf, fanned, chunked, openingBy, opening};
+ghost use Rattle.file.specs.Table.{width, indexOf, fileOf, fanned, chunked, openingBy, opening};
 
 // The width of the file's ids: 20 for hash version 1.
 fn width_of(s: &[u8]) -> usize

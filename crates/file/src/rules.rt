@@ -21,7 +21,6 @@ use types::refusal::TRAILER_SIZE;
 use types::refusal::VERSION;
 use words::big::be32;
 ghost use mathlib.Core.Path.{_≡_};
-ghost use mathlib.Core.Bool.{Bool};
 ghost use Prim.Native.Nat.{_/_, _%_, _<_};
 ghost use Rattle.chunk.specs.Index.{sizeOf};
 ghost use Rattle.file.specs.Table.{header, baseRules, chunkRules, peak, peakBy, countRules};

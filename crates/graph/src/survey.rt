@@ -14,8 +14,7 @@ ghost use mathlib.Core.Path.{_≡_};
 ghost use mathlib.Core.Bool.{false};
 ghost use Rattle.graph.specs.Chain.{Listed, partAt};
 ghost use Rattle.graph.specs.Passes.{keptOf, Surveyed};
-ghost use Prim.Native.Nat.{_≤_, _<_};
-ghost use Rattle.words.specs.Part.{PartOf};
+ghost use Prim.Native.Nat.{_<_};
 ghost use Rattle.words.specs.Sums.{before};
 ghost use Rattle.list.specs.List.{lengthAt};
 

@@ -18,7 +18,7 @@ use types::refusal;
 use types::refusal::Refusal;
 use words::part::part;
 ghost use mathlib.Core.Path.{_≡_};
-ghost use mathlib.Core.Bool.{Bool, not};
+ghost use mathlib.Core.Bool.{not};
 ghost use Rattle.words.specs.Part.{PartOf};
 ghost use Rattle.chunk.specs.Index.{absent, startOf, sizeOf};
 ghost use Rattle.fit.specs.Fits.{Fitted};
