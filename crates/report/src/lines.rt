@@ -3,7 +3,7 @@ use audit::Length;
 use text::number;
 use text::put;
 use types::refusal::Refusal;
-ghost use mathlib.Core.List.{_∷_, _++_};
+ghost use mathlib.Core.List.{[], _∷_, _++_};
 ghost use Prim.Native.Nat.{_+_, _≤_};
 ghost use lib.ListN.{length};
 ghost use Rattle.text.specs.Text.{dec};
