@@ -23,12 +23,12 @@ unfolding refuse
 refuse-yes zero rest h = absurd (omega arith)
 refuse-yes (suc n) rest h = refl
 
-refuse-no : (n : ℕ) (rest r : Found) → 0 ≡ n → r ≡ rest → r ≡ refuse n rest
+refuse-no : {n : ℕ} {rest r : Found} → 0 ≡ n → r ≡ rest → r ≡ refuse n rest
 unfolding refuse
-refuse-no n rest r e h = rw (← e) h
+refuse-no e h = rw (← e) h
 
 -- m is what the record's rule said
-module _ (l : List ℕ) (f : File) (x : List ℕ) (m : ℕ) (e : m ≡ fitRule l f) where
+module _ (l : List ℕ) (f : File) (x : List ℕ) {m : ℕ} (e : m ≡ fitRule l f) where
   pub look-misfit : 0 < m → Refused (refusal m 0) ≡ lookupOf l f x
   unfolding lookupOf
   look-misfit h = rw (← e) (refuse-yes m _ h)
@@ -40,11 +40,11 @@ module _ (l : List ℕ) (f : File) (x : List ℕ) (m : ℕ) (e : m ≡ fitRule l
     pub look-width : (length x ≡ f .width → ⊥) → Refused (refusal 41 0) ≡ lookupOf l f x
     unfolding lookupOf
     look-width h =
-        refuse-no _ _ _ none (ap (λ (n : ℕ). Refused (refusal n 0)) (hit 41 _ 0 (ne-not _ _ h))
-        ∙ refuse-yes (41 if not (eqb (length x) (f .width)) else 0) _ (rw (← hit 41 _ 0 (ne-not _ _ h)) (omega arith)))
+        refuse-no none (ap (λ (n : ℕ). Refused (refusal n 0)) (hit 41 _ 0 (ne-not _ _ h))
+        ∙ refuse-yes _ _ (rw (← hit 41 _ 0 (ne-not _ _ h)) (omega arith)))
 
     -- `to` is the fan entry of the id's first byte
-    module _ (w : length x ≡ f .width) (to : ℕ) (d : to ≡ upper (fanPart l f) (getD x 0 0)) where
+    module _ (w : length x ≡ f .width) {to : ℕ} (d : to ≡ upper (fanPart l f) (getD x 0 0)) where
       wide : 0 ≡ (41 if not (eqb (length x) (f .width)) else 0)
       wide = miss 41 _ 0 0 (eq-not _ _ w) refl
 
@@ -52,15 +52,15 @@ module _ (l : List ℕ) (f : File) (x : List ℕ) (m : ℕ) (e : m ≡ fitRule l
       unfolding lookupOf
       look-out h =
           let q : 40 ≡ (40 if ltb (f .commits) (upper (fanPart l f) (getD x 0 0)) else 0) =
-          hit 40 _ 0 (lt-ltb (f .commits) (upper (fanPart l f) (getD x 0 0)) (omega arith)) in
-          refuse-no _ _ _ none (refuse-no _ _ _ wide (ap (λ (n : ℕ). Refused (refusal n 0)) q ∙ refuse-yes _ _ (rw (← q) (omega arith))))
+          hit 40 _ 0 (lt-ltb (f .commits) _ (omega arith)) in
+          refuse-no none (refuse-no wide (ap (λ (n : ℕ). Refused (refusal n 0)) q ∙ refuse-yes _ _ (rw (← q) (omega arith))))
 
-      pub look-search : to ≤ f .commits → (from : ℕ) → from ≡ lower (fanPart l f) (getD x 0 0)
+      pub look-search : to ≤ f .commits → {from : ℕ} → from ≡ lower (fanPart l f) (getD x 0 0)
           → halving (keyOf (length x) (idsPart l f)) (number x) from to ≡ lookupOf l f x
       unfolding lookupOf
-      look-search h from g =
-          refuse-no _ _ _ none (refuse-no _ _ _ wide
-          (refuse-no _ _ _ (miss 40 _ 0 0 (le-ltb (f .commits) (upper (fanPart l f) (getD x 0 0)) (omega arith)) refl) (rw (w, g, d))))
+      look-search h g =
+          refuse-no none (refuse-no wide
+          (refuse-no (miss 40 _ 0 0 (le-ltb (f .commits) _ (omega arith)) refl) (rw (w, g, d))))
 
 -- what is found lies below N, on any bytes
 found-refuse : (n : ℕ) (rest : Found) (i : ℕ) → refuse n rest ≡ found i → (n ≡ 0) × (rest ≡ found i)
@@ -75,5 +75,5 @@ found-below l f x i e =
     let p2 = found-refuse _ _ i (p1 .1) in
     let p3 = found-refuse _ _ i (p2 .1) in
     let u : upper (fanPart l f) (getD x 0 0) ≤ f .commits = ltb-false _ _ (pass 40 _ _ (lit< tt) (p3 .0) .0) in
-    let s = halving-sound (keyOf (f .width) (idsPart l f)) (number x) _ _ i (p3 .1) in
+    let s = halving-sound _ (number x) _ _ i (p3 .1) in
     omega (arith, s .1)

@@ -28,19 +28,20 @@ use Rattle.access.proofs.Halving.{halving-sound, halving-answers, halvi
 use Rattle.access.proofs.Looks.{look-width, look-search}
 
 -- an id as a list and as a number
-module _ (l x : List ℕ) (at w : ℕ) (bl : Bytes l) (bx : Bytes x) (e : length x ≡ w) (h : at + w ≤ length l) where
+module _ (l x : List ℕ) (at : ℕ) {w : ℕ} (bl : Bytes l) (bx : Bytes x) (e : length x ≡ w) (h : at + w ≤ length l) where
   part-at : (k : ℕ) → k < w → getD (take w (drop at l)) k 0 ≡ getD l (at + k) 0
   part-at k g = rw (getD-take, getD-drop)
 
   pub list-is : number x ≡ be w l at → take w (drop at l) ≡ x
   list-is n =
       ext-getD 0 (take w (drop at l)) x (length-part at w l h ∙ sym e)
-      (λ k g. let q : k < w = omega (arith, length-part at w l h) in part-at k q ∙ sym (same-bytes x l 0 at bx bl w (rw e at n) k q) ∙ rw zero-add)
+      (λ k g. let q : k < w = omega (arith, length-part at w l h) in
+      part-at k q ∙ sym (same-bytes x l 0 at bx bl w (rw e at n) k q) ∙ rw zero-add)
 
   pub number-is : take w (drop at l) ≡ x → number x ≡ be w l at
   number-is n = rw e (same-number x l 0 at w (λ k g. rw zero-add (rw (← n) (part-at k g))))
 
-module _ (l : List ℕ) (f : File) (o : Opened l f) (u : Rises l f) where
+module _ {l : List ℕ} {f : File} (o : Opened l f) (u : Rises l f) where
   -- no fan entry is above the last
   fan-le : (k : ℕ) → k ≤ 255 → upper (fanPart l f) (255 - k) ≤ f .commits
   fan-le zero h = omega (arith, o .count)
@@ -65,10 +66,11 @@ module _ (l : List ℕ) (f : File) (o : Opened l f) (u : Rises l f) where
   module _ (x : List ℕ) (bx : Bytes x) where
     -- for a file that `open` gave a lookup is the plain search
     pub plain : length x ≡ f .width
-        → halving (keyOf (f .width) (idsPart l f)) (number x) (lower (fanPart l f) (getD x 0 0)) (upper (fanPart l f) (getD x 0 0)) ≡ lookupOf l f x
+        → halving (keyOf (f .width) (idsPart l f)) (number x) (lower (fanPart l f) (getD x 0 0)) (upper (fanPart l f) (getD x 0 0))
+        ≡ lookupOf l f x
     plain e =
-        ap (λ (w : ℕ). halving (keyOf w (idsPart l f)) (number x) (lower (fanPart l f) (getD x 0 0)) (upper (fanPart l f) (getD x 0 0))) (sym e)
-        ∙ look-search l f x 0 (sym (opened-fits l f o)) (omega arith) e _ refl (upper-le (getD x 0 0) (bx 0)) _ refl
+        ap (λ (w : ℕ). halving (keyOf w (idsPart l f)) (number x) (lower (fanPart l f) (getD x 0 0)) (upper (fanPart l f) (getD x 0 0)))
+        (sym e) ∙ look-search l f x (sym (opened-fits o)) (omega arith) e refl (upper-le (getD x 0 0) (bx 0)) refl
 
     -- so it never refuses an id of the file's width
     pub answers-in : length x ≡ f .width → Answers (lookupOf l f x)
@@ -77,7 +79,7 @@ module _ (l : List ℕ) (f : File) (o : Opened l f) (u : Rises l f) where
         go : (r : Found) → lookupOf l f x ≡ r → Answers r
         go (At p) e = inl (p .0, refl)
         go Absent e = inr refl
-        go (Refused q) e = absurd (halving-answers (keyOf (f .width) (idsPart l f)) (number x) _ _ q (plain w ∙ e))
+        go (Refused q) e = absurd (halving-answers _ (number x) _ _ q (plain w ∙ e))
 
   module _ (x : List ℕ) (bl : Bytes l) (bx : Bytes x) where
     bi : Bytes (idsPart l f)
@@ -86,18 +88,18 @@ module _ (l : List ℕ) (f : File) (o : Opened l f) (u : Rises l f) where
     sound-same : length x ≡ f .width → (i : ℕ) → lookupOf l f x ≡ found i → (i < f .commits) × (stored l f i ≡ x)
     unfolding stored keyOf
     sound-same e i g =
-        let s = halving-sound (keyOf (f .width) (idsPart l f)) (number x) _ _ i (plain x bx e ∙ g) in
+        let s = halving-sound _ (number x) _ _ i (plain x bx e ∙ g) in
         let n : i < f .commits = omega (arith, s .1, upper-le (getD x 0 0) (bx 0)) in
-        (n, list-is (idsPart l f) x (i * f .width) (f .width) bi bx e (id-within i n) (s .2))
+        (n, list-is (idsPart l f) x (i * f .width) bi bx e (id-within i n) (s .2))
 
     -- what is found is stored, in any file that opened
     pub sound : (i : ℕ) → lookupOf l f x ≡ found i → (i < f .commits) × (stored l f i ≡ x)
-    sound = go (eqb (length x) (f .width)) refl
+    sound = go _ refl
       where
         go : (t : Bool) → eqb (length x) (f .width) ≡ t → (i : ℕ) → lookupOf l f x ≡ found i → (i < f .commits) × (stored l f i ≡ x)
         go true t i e = sound-same (eqb-true (length x) (f .width) t) i e
         go false t i e =
-            let w = look-width l f x 0 (sym (opened-fits l f o)) (omega arith) (eqb-false (length x) (f .width) t) in
+            let w = look-width l f x (sym (opened-fits o)) (omega arith) (eqb-false (length x) (f .width) t) in
             let z : _≡_ {A = ℕ} 0 1 = cc in absurd (omega arith)
 
     module _ (d : Ordered l f) where
@@ -115,7 +117,7 @@ module _ (l : List ℕ) (f : File) (o : Opened l f) (u : Rises l f) where
       first-is : (i : ℕ) → stored l f i ≡ x → getD x 0 0 ≡ leading l f i
       unfolding leading stored
       first-is i e =
-          rw (← e) (getD-take (f .width) (drop (i * f .width) (idsPart l f)) 0 0 (o .fitted .wide)
+          rw (← e) (getD-take (f .width) _ 0 0 (o .fitted .wide)
           ∙ getD-drop (i * f .width) (idsPart l f) 0 0 ∙ rw add-zero)
 
       length-is : (i : ℕ) → i < f .commits → stored l f i ≡ x → length x ≡ f .width
@@ -129,8 +131,8 @@ module _ (l : List ℕ) (f : File) (o : Opened l f) (u : Rises l f) where
           let lo : lower (fanPart l f) (getD x 0 0) ≤ i = rw b (d .low i h) in
           let hi : i < upper (fanPart l f) (getD x 0 0) = rw b (d .high i h) in
           sym (plain x bx w)
-          ∙ halving-whole (keyOf (f .width) (idsPart l f)) (number x) (f .commits) up _ _ i (upper-le (getD x 0 0) (bx 0)) lo hi
-          (number-is (idsPart l f) x (i * f .width) (f .width) bi bx w (id-within i h) e)
+          ∙ halving-whole _ (number x) (f .commits) up _ _ i (upper-le (getD x 0 0) (bx 0)) lo hi
+          (number-is (idsPart l f) x (i * f .width) bi bx w (id-within i h) e)
 
       finds : length x ≡ f .width → Finds l f x (lookupOf l f x)
       finds w =
@@ -147,10 +149,11 @@ unfolding stored
 stored-bytes l f i bl = bytes-part (idsPart l f) (i * f .width) (f .width) (bytes-part l (f .oidl) (f .commits * f .width) bl)
 
 -- an opened file never refuses an id of its width
-pub answers : (l : List ℕ) (f : File) (x : List ℕ) → opening l ≡ Open f → Bytes x → length x ≡ f .width → Answers (lookupOf l f x)
-answers l f x o bx w = answers-in l f (opened true l f o) (rising l f o) x bx w
+pub answers : (l : List ℕ) {f : File} (x : List ℕ) → opening l ≡ Open f → Bytes x → length x ≡ f .width → Answers (lookupOf l f x)
+answers l {f} x o bx w = answers-in (opened true l o) (rising l o) x bx w
 
 -- a result that is the definition's has the definition's theorem
-pub both : (l : List ℕ) (f : File) (x : List ℕ) → Bytes l → Bytes x → (r : Found) → r ≡ lookupOf l f x → (r ≡ lookupOf l f x) × Right l f x r
+pub both : (l : List ℕ) (f : File) (x : List ℕ) → Bytes l → Bytes x → {r : Found} → r ≡ lookupOf l f x
+    → (r ≡ lookupOf l f x) × Right l f x r
 unfolding Right
-both l f x bl bx r e = (e, λ o d w. rw e (finds l f (opened true l f o) (rising l f o) x bl bx d w))
+both l f x bl bx e = (e, λ o d w. rw e (finds (opened true l o) (rising l o) x bl bx d w))

@@ -62,8 +62,10 @@ module _ (f : ℕ → ℕ) where
 
   pub highest-at : (n : ℕ) → 0 < n → (k : ℕ) × (k < n) × (f k ≡ highestBelow f n)
   unfolding highestBelow
-  highest-at = reached (highestBelow f) (omega arith) (λ n h.
-      ⊎-elim (λ (l : highestBelow f n ≤ f n). inl (omega arith)) (λ (l : f n < highestBelow f n). inr (omega arith)) (le-or-lt (highestBelow f n) (f n)))
+  highest-at =
+      reached (highestBelow f) (omega arith)
+      (λ n h. ⊎-elim (λ (l : highestBelow f n ≤ f n). inl (omega arith)) (λ (l : f n < highestBelow f n). inr (omega arith))
+      (le-or-lt (highestBelow f n) (f n)))
 
   -- a highest above 0 has a commit
   pub highest-top : (n : ℕ) → 0 < highestBelow f n → (k : ℕ) × (k < n) × (f k ≡ highestBelow f n)
@@ -153,15 +155,15 @@ table-at g (suc m) zero h = refl
 table-at g (suc m) (suc j) h = table-at (λ i. g (suc i)) m j (omega arith)
 
 -- a list of m numbers that are g's is g's table
-pub table-is : (g : ℕ → ℕ) (m : ℕ) (l : List ℕ) → length l ≡ m → ((j : ℕ) → j < m → getD l j 0 ≡ g j) → table g m ≡ l
-table-is g m l e h =
+pub table-is : (g : ℕ → ℕ) {m : ℕ} (l : List ℕ) → length l ≡ m → ((j : ℕ) → j < m → getD l j 0 ≡ g j) → table g m ≡ l
+table-is g {m} l e h =
     ext-getD 0 (table g m) l (table-length g m ∙ sym e)
     (λ j b. let k : j < m = omega (arith, table-length g m) in table-at g m j k ∙ sym (h j k))
 
 -- two functions that differ at k only: their tables differ by a store
 pub table-set : (g h : ℕ → ℕ) (m k : ℕ) → k < m → ((j : ℕ) → (j ≡ k → ⊥) → h j ≡ g j) → table h m ≡ set (table g m) k (h k)
 table-set g h m k b e =
-    table-is h m (set (table g m) k (h k)) (length-set (table g m) k (h k) ∙ table-length g m) (λ j l. go j l (ℕ-discrete j k))
+    table-is h _ (length-set (table g m) k (h k) ∙ table-length g m) (λ j l. go j l (ℕ-discrete j k))
   where
     go : (j : ℕ) → j < m → Dec (j ≡ k) → getD (set (table g m) k (h k)) j 0 ≡ h j
     go j l (yes q) = rw (q, getD-set-same (table g m) k (h k) 0 (omega (arith, table-length g m)))
@@ -179,7 +181,7 @@ module _ (key : ℕ → ℕ) where
   -- "zero repeated 66 times"
   pub counts-none : countsOf key 0 ≡ replicate 66 0
   unfolding countUp
-  counts-none = table-is (countUp key 0) 66 (replicate 66 0) refl (λ j h. getD-replicate 66 j 0 0 h)
+  counts-none = table-is (countUp key 0) (replicate 66 0) refl (λ j h. getD-replicate 66 j 0 0 h)
 
   -- one commit more
   pub counts-next : (n : ℕ) → key n < 66 → countsOf key (suc n) ≡ set (countsOf key n) (key n) (getD (countsOf key n) (key n) 0 + 1)
@@ -197,4 +199,4 @@ module _ (key : ℕ → ℕ) where
 
 pub counts-same : (f g : ℕ → ℕ) (n : ℕ) → ((k : ℕ) → k < n → f k ≡ g k) → countsOf f n ≡ countsOf g n
 counts-same f g n e =
-    table-is (countUp f n) 66 (countsOf g n) (counts-length g n) (λ j h. counts-at g n j h ∙ sym (count-same f g j n e))
+    table-is (countUp f n) (countsOf g n) (counts-length g n) (λ j h. counts-at g n j h ∙ sym (count-same f g j n e))

@@ -24,7 +24,8 @@ merge-numbered = record { few = omega arith; inside = inside; right = right }
     inside : (c p : ℕ) → c < 3 → List·Memᴰ p (merge c) → p < 3
     inside zero p h m = absurd (List·Memᴰ·not-nil m)
     inside (suc zero) p h m = omega (arith, List·Memᴰ·eq-of-singleton m)
-    inside (suc (suc c)) p h m = ⊎-elim (λ (e : p ≡ 1). omega arith) (λ t. omega (arith, List·Memᴰ·eq-of-singleton t)) (List·Memᴰ·cases-cons m)
+    inside (suc (suc c)) p h m =
+        ⊎-elim (λ (e : p ≡ 1). omega arith) (λ t. omega (arith, List·Memᴰ·eq-of-singleton t)) (List·Memᴰ·cases-cons m)
 
     right : (c : ℕ) → c < 3 → suc c ≡ rightGen suc (merge c)
     right zero h = refl

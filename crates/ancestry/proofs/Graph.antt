@@ -52,7 +52,7 @@ module _ {parents : ℕ → List ℕ} where
   later (step s r) zero (suc j) h l = (j, step s (upto r j (omega arith)))
   later (step s r) (suc i) (suc j) h l = later r i j (omega arith) (omega arith)
 
-module _ (n : ℕ) (parents : ℕ → List ℕ) (gen : ℕ → ℕ) (g : Numbered n parents gen) where
+module _ {n : ℕ} {parents : ℕ → List ℕ} {gen : ℕ → ℕ} (g : Numbered n parents gen) where
   end-inside : {c d k : ℕ} → c < n → Run parents c d k → d < n
   end-inside h stay = h
   end-inside h (step {c = c} {p = p} s r) = end-inside (g .inside c p h s) r
@@ -84,7 +84,8 @@ module _ (n : ℕ) (parents : ℕ → List ℕ) (gen : ℕ → ℕ) (g : Numbere
 
   -- the highest generation is at most the number of commits, or the cap
   pub highest-few : (highestBelow gen n ≤ n) ⊎ (highestBelow gen n ≡ cap)
-  highest-few = ⊎-elim (λ (l : highestBelow gen n ≤ n). inl l) (λ (l : n < highestBelow gen n). inr (at-cap l)) (le-or-lt (highestBelow gen n) n)
+  highest-few =
+      ⊎-elim (λ (l : highestBelow gen n ≤ n). inl l) (λ (l : n < highestBelow gen n). inr (at-cap l)) (le-or-lt (highestBelow gen n) n)
     where
       at-cap : n < highestBelow gen n → highestBelow gen n ≡ cap
       at-cap l =
@@ -131,18 +132,18 @@ pub agrees : (n : ℕ) (parents : ℕ → List ℕ) (gen : ℕ → ℕ) → Numb
 unfolding lengthOf
 agrees n parents gen g =
     ⊎-elim
-    (λ (l : highestBelow gen n ≤ n). rw (ne-eqb (highestBelow gen n) cap (λ e. omega (arith, g .few))) (agrees-some n parents gen g l))
+    (λ (l : highestBelow gen n ≤ n). rw (ne-eqb (highestBelow gen n) cap (λ e. omega (arith, g .few))) (agrees-some g l))
     (λ (e : highestBelow gen n ≡ cap).
     let (c, h, q) = highest-top gen n (omega arith) in
-    rw (eq-eqb (highestBelow gen n) cap e) (agrees-none (deep n parents gen g c h (omega (arith, g .few)))))
-    (highest-few n parents gen g)
+    rw (eq-eqb (highestBelow gen n) cap e) (agrees-none (deep g c h (omega (arith, g .few)))))
+    (highest-few g)
 
 -- the graph alone decides the answer
-pub unique : (n : ℕ) (parents : ℕ → List ℕ) (a b : Option ℕ) → Agrees n parents a → Agrees n parents b → a ≡ b
-unique n parents none none p q = refl
-unique n parents none (some l) p q = let (c, h, o) = p .cyclic refl in absurd (q .acyclic l refl c h o)
-unique n parents (some l) none p q = let (c, h, o) = q .cyclic refl in absurd (p .acyclic l refl c h o)
-unique n parents (some l) (some m) p q =
+pub unique : {n : ℕ} {parents : ℕ → List ℕ} (a b : Option ℕ) → Agrees n parents a → Agrees n parents b → a ≡ b
+unique none none p q = refl
+unique none (some l) p q = let (c, h, o) = p .cyclic refl in absurd (q .acyclic l refl c h o)
+unique (some l) none p q = let (c, h, o) = q .cyclic refl in absurd (p .acyclic l refl c h o)
+unique {n} (some l) (some m) p q =
     ⊎-elim
     (λ (z : n ≡ 0). p .empty z ∙ sym (q .empty z))
     (λ (z : 0 < n).

@@ -29,16 +29,16 @@ pub sofar-begins : (bad : ℕ → Bool) (n : ℕ) → Sofar bad n 0
 sofar-begins bad n = record { most = omega arith; rest = first-begins bad n }
 
 -- r is what commit i met
-module _ (rule : ℕ → ℕ) (bad : ℕ → Bool) (is : (i : ℕ) → bad i ≡ ltb 0 (rule i)) (n i : ℕ) (s : Sofar bad n i) where
-  pub sofar-next : (r : ℕ) → i < n → r ≡ rule i → r ≤ 0 → Sofar bad n (i + 1)
-  sofar-next r l e h = record {
+module _ (rule : ℕ → ℕ) {bad : ℕ → Bool} (is : (i : ℕ) → bad i ≡ ltb 0 (rule i)) {n i : ℕ} (s : Sofar bad n i) where
+  pub sofar-next : {r : ℕ} → i < n → r ≡ rule i → r ≤ 0 → Sofar bad n (i + 1)
+  sofar-next l e h = record {
     most = omega arith;
     rest = first-step bad n i (s .rest) l (is i ∙ le-ltb 0 (rule i) (omega arith));
   }
 
-  pub sofar-stops : (r : ℕ) → i < n → r ≡ rule i → 0 < r → (i ≡ first bad 0 n) × (r ≡ firstRule rule bad n)
+  pub sofar-stops : {r : ℕ} → i < n → r ≡ rule i → 0 < r → (i ≡ first bad 0 n) × (r ≡ firstRule rule bad n)
   unfolding _if_else_
-  sofar-stops r l e h =
+  sofar-stops l e h =
       let b : i ≡ first bad 0 n = first-stop bad n i (s .rest) l (is i ∙ lt-ltb 0 (rule i) (omega arith)) in
       (b, rw (← b, lt-ltb i n l) e)
 
@@ -74,7 +74,7 @@ module _ (rule : ℕ → ℕ) (bad : ℕ → Bool) (is : (i : ℕ) → bad i ≡
 
 -- ── sums: x is what the commits below n came to, g what commit n has ──
 
-module _ (f : ℕ → ℕ) (n x g r : ℕ) (e : g ≡ f n) where
+module _ (f : ℕ → ℕ) (n x : ℕ) {g : ℕ} (r : ℕ) (e : g ≡ f n) where
   pub highest-adds : x ≡ highestBelow f n → r ≡ max x g → r ≡ highestBelow f (n + 1)
   highest-adds d q = rw add-one (omega (arith, highest-next f n))
 
@@ -84,7 +84,7 @@ module _ (f : ℕ → ℕ) (n x g r : ℕ) (e : g ≡ f n) where
   pub lowest-adds : 0 < n → x ≡ lowestBelow f n → r ≡ min x g → r ≡ lowestBelow f (n + 1)
   lowest-adds h d q = rw add-one (omega (arith, lowest-next f n h))
 
-module _ (key : ℕ → ℕ) (n k : ℕ) (l : List ℕ) (e : k ≡ key n) (h : k < 66) (d : l ≡ countsOf key n) where
+module _ (key : ℕ → ℕ) (n : ℕ) {k : ℕ} {l : List ℕ} (e : k ≡ key n) (h : k < 66) (d : l ≡ countsOf key n) where
   pub counts-adds : set l k (getD l k 0 + 1) ≡ countsOf key (n + 1)
   counts-adds =
       let b : key n < 66 = omega arith in

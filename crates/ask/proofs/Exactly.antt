@@ -37,9 +37,9 @@ data Lowest (id : ℕ → List ℕ) (x : List ℕ) (from to : ℕ) (r : Found) :
   nowhere : r ≡ Absent → ((g : ℕ) → from ≤ g → g < to → id g ≡ x → ⊥) → Lowest id x from to r
 
 -- what comes first has no x: so the lowest of the rest is the lowest of all
-later : (id : ℕ → List ℕ) (x : List ℕ) (from mid to : ℕ) (r : Found) → from ≤ mid → ((g : ℕ) → from ≤ g → g < mid → id g ≡ x → ⊥)
+later : {id : ℕ → List ℕ} {x : List ℕ} (from : ℕ) {mid to : ℕ} {r : Found} → from ≤ mid → ((g : ℕ) → from ≤ g → g < mid → id g ≡ x → ⊥)
     → Lowest id x mid to r → Lowest id x from to r
-later id x from mid to r m none = go
+later {id} {x} from {mid} {to} {r} m none = go
   where
     past : (hi : ℕ) → ((g : ℕ) → mid ≤ g → g < hi → id g ≡ x → ⊥) → (g : ℕ) → from ≤ g → g < hi → id g ≡ x → ⊥
     past hi low g a b e = ⊎-elim (λ (d : mid ≤ g). low g d b e) (λ (d : g < mid). none g a d e) (le-or-lt mid g)
@@ -49,8 +49,8 @@ later id x from mid to r m none = go
     go (nowhere e low) = nowhere e (past to low)
 
 module _ (z : ℕ) (c l : List ℕ) where
-  exact-of : (x : List ℕ) (r : Found) → Lowest (idOf z c l) x 0 (commitsIn z c l) r → Exact z c l x r
-  exact-of x r (here h e a b d low) =
+  exact-of : {x : List ℕ} {r : Found} → Lowest (idOf z c l) x 0 (commitsIn z c l) r → Exact z c l x r
+  exact-of (here h e a b d low) =
       record {
         inside = λ m q. (let y : h ≡ m = place-same h m (sym e ∙ q) in omega arith);
         sound = λ m q. (let y : h ≡ m = place-same h m (sym e ∙ q) in rw (← y) d);
@@ -59,7 +59,7 @@ module _ (z : ℕ) (c l : List ℕ) where
         absent = λ q g p v. (let y : _≡_ {A = ℕ} 0 1 = cc in omega arith);
         none = λ y. absurd (y h b d);
       }
-  exact-of x r (nowhere e low) =
+  exact-of (nowhere e low) =
       record {
         inside = λ m q. (let y : _≡_ {A = ℕ} 0 1 = cc in absurd (omega arith));
         sound = λ m q. (let y : _≡_ {A = ℕ} 0 1 = cc in absurd (omega arith));
@@ -70,26 +70,26 @@ module _ (z : ℕ) (c l : List ℕ) where
       }
 
   -- the id at place i of file k
-  id-at : (k i : ℕ) → k < recordsOf z l → i < countAt z c l k → (f : File) → openAt z c l k ≡ Open f
+  id-at : (k i : ℕ) → k < recordsOf z l → i < countAt z c l k → {f : File} → openAt z c l k ≡ Open f
       → idOf z c l (firstAt z c l k + i) ≡ stored (partAt z c l k) f i
   unfolding idOf storedIn
-  id-at k i b h f e = rw (stands z c l .fileBack k i b h, stands z c l .posBack k i b h, e)
+  id-at k i b h e = rw (stands z c l .fileBack k i b h, stands z c l .posBack k i b h, e)
 
   part-bytes : Bytes c → (k : ℕ) → Bytes (partAt z c l k)
   unfolding partAt
   part-bytes bc k = bytes-part c (startAt z c l k) (lengthAt z l k) bc
 
-  wide : (k : ℕ) (f : File) → openAt z c l k ≡ Open f → f .width ≡ 20
+  wide : (k : ℕ) {f : File} → openAt z c l k ≡ Open f → f .width ≡ 20
   unfolding openAt
-  wide k f e = eqb-true (f .width) 20 (file-opened true (partAt z c l k) f e .known)
+  wide k {f} e = eqb-true (f .width) 20 (file-opened true (partAt z c l k) e .known)
 
   module _ (s : Sorted z c l) (bc : Bytes c) where
     module _ (x : List ℕ) (bx : Bytes x) (w : length x ≡ 20) where
       -- file k is open: what it finds, else what the files after it say
-      module _ (k : ℕ) (b : k < recordsOf z l) (f : File) (e : openAt z c l k ≡ Open f) where
+      module _ (k : ℕ) (b : k < recordsOf z l) {f : File} (e : openAt z c l k ≡ Open f) where
         finds : Finds (partAt z c l k) f x (lookupIn (partAt z c l k) f x)
         unfolding openAt Right
-        finds = both (partAt z c l k) f x (part-bytes bc k) bx _ refl .1 e (s .ordered k b f e) (w ∙ sym (wide k f e))
+        finds = both (partAt z c l k) f x (part-bytes bc k) bx refl .1 e (s .ordered k b f e) (w ∙ sym (wide k e))
 
         counts : countAt z c l k ≡ f .commits
         unfolding countAt commitsOf
@@ -101,71 +101,71 @@ module _ (z : ℕ) (c l : List ℕ) where
         placed g a d =
             let h : g - firstAt z c l k < countAt z c l k = omega (arith, before-next (countAt z c l) k) in
             let q : firstAt z c l k + (g - firstAt z c l k) ≡ g = omega arith in
-            (omega (arith, counts), ap (idOf z c l) (sym q) ∙ id-at k (g - firstAt z c l k) b h f e)
+            (omega (arith, counts), ap (idOf z c l) (sym q) ∙ id-at k (g - firstAt z c l k) b h e)
 
-        open-step : (to : ℕ) (rest : Found) → firstAt z c l (k + 1) ≤ to → Lowest (idOf z c l) x (firstAt z c l (k + 1)) to rest
+        open-step : {to : ℕ} {rest : Found} → firstAt z c l (k + 1) ≤ to → Lowest (idOf z c l) x (firstAt z c l (k + 1)) to rest
             → Lowest (idOf z c l) x (firstAt z c l k) to (shift (firstAt z c l k) (lookupIn (partAt z c l k) f x) rest)
         unfolding shift openAt
-        open-step to rest t r =
-            ⊎-elim
-            (λ a.
-            let p = finds .sound (a .0) (a .1) in
+        open-step {to} {rest} t r =
+            ⊎-elim (λ a. let p = finds .sound (a .0) (a .1) in
             let h : a .0 < countAt z c l k = omega (arith, counts, p .0) in
-            rw (a .1) (here (firstAt z c l k + a .0) refl (omega arith) (omega (arith, before-next (countAt z c l) k)) (id-at k (a .0) b h f e ∙ p .1)
-            (λ g y v q.
-            let j = placed g y (omega (arith, before-next (countAt z c l) k)) in
+            rw (a .1) (here (firstAt z c l k + a .0) refl (omega arith) (omega (arith, before-next (countAt z c l) k))
+            (id-at k (a .0) b h e ∙ p .1)
+            (λ g y v q. let j = placed g y (omega (arith, before-next (countAt z c l) k)) in
             omega (arith, found-same _ _ (sym (a .1) ∙ finds .whole (g - firstAt z c l k) (j .0) (sym (j .1) ∙ q))))))
-            (λ a.
-            rw a (later (idOf z c l) x (firstAt z c l k) (firstAt z c l (k + 1)) to rest (omega (arith, before-next (countAt z c l) k))
+            (λ a. rw a (later (firstAt z c l k)
+            (omega (arith, before-next (countAt z c l) k))
             (λ g y v q. (let j = placed g y v in finds .absent a (g - firstAt z c l k) (j .0) (sym (j .1) ∙ q))) r))
-            (answers (partAt z c l k) f x e bx (w ∙ sym (wide k f e)))
+            (answers (partAt z c l k) x e bx (w ∙ sym (wide k e)))
 
-      step : (k to : ℕ) (rest : Found) → k < recordsOf z l → firstAt z c l (k + 1) ≤ to → Lowest (idOf z c l) x (firstAt z c l (k + 1)) to rest
+      step : (k : ℕ) {to : ℕ} {rest : Found} → k < recordsOf z l → firstAt z c l (k + 1) ≤ to
+          → Lowest (idOf z c l) x (firstAt z c l (k + 1)) to rest
           → Lowest (idOf z c l) x (firstAt z c l k) to (shift (firstAt z c l k) (findAt z c l x k) rest)
       unfolding shift findIn countAt commitsOf
-      step k to rest b t r = go (openAt z c l k) refl
+      step k {to} {rest} b t r = go (openAt z c l k) refl
         where
           go : (o : Opening) → openAt z c l k ≡ o
               → Lowest (idOf z c l) x (firstAt z c l k) to (shift (firstAt z c l k) (findIn (partAt z c l k) o x) rest)
-          go (Open f) e = open-step k b f e to rest t r
+          go (Open f) e = open-step k b e t r
           go (Refused q) e =
               let n : countAt z c l k ≡ 0 = rw e in
-              later (idOf z c l) x (firstAt z c l k) (firstAt z c l (k + 1)) to rest (omega (arith, before-next (countAt z c l) k))
+              later (firstAt z c l k) (omega (arith, before-next (countAt z c l) k))
               (λ g y v q. omega (arith, before-next (countAt z c l) k)) r
 
       along : (left k : ℕ) → k + left ≡ recordsOf z l → Lowest (idOf z c l) x (firstAt z c l k) (commitsIn z c l) (lookFrom z c l x k left)
       unfolding lookFrom
       along zero k e = let q : k ≡ recordsOf z l = omega arith in nowhere refl (λ g y v p. omega (arith, ap (firstAt z c l) q))
       along (suc left) k e =
-          step k (commitsIn z c l) (lookFrom z c l x (k + 1) left) (omega arith) (before-le (countAt z c l) (k + 1) (recordsOf z l) (omega arith))
+          step k (omega arith) (before-le (countAt z c l) (k + 1) (recordsOf z l) (omega arith))
           (along left (k + 1) (omega arith))
 
       pub exact : Exact z c l x (lookupOf z c l x)
       unfolding lookupOf pickFound before
       exact =
           rw (le-ltb 0 (opened z c l .number) (omega (arith, s .opens)), eq-not (length x) 20 w)
-          (exact-of x _ (along (recordsOf z l) 0 (omega arith)))
+          (exact-of (along (recordsOf z l) 0 (omega arith)))
 
     -- the id at a position is an id
-    module _ (g : ℕ) (h : g < commitsIn z c l) (f : File) (e : openAt z c l (fileOf z c l g) ≡ Open f) (b : posOf z c l g < f .commits) where
+    module _ (g : ℕ) (h : g < commitsIn z c l) {f : File} (e : openAt z c l (fileOf z c l g) ≡ Open f) (b : posOf z c l g < f .commits) where
       id-long : length (idOf z c l g) ≡ 20
       unfolding idOf storedIn openAt
       id-long =
-          rw e (stored-long (partAt z c l (fileOf z c l g)) f (file-opened true (partAt z c l (fileOf z c l g)) f e) (rising (partAt z c l (fileOf z c l g)) f e) (posOf z c l g) b
-          ∙ wide (fileOf z c l g) f e)
+          rw e (stored-long (file-opened true _ e) (rising _ e) (posOf z c l g) b
+          ∙ wide (fileOf z c l g) e)
 
       id-bytes : Bytes (idOf z c l g)
       unfolding idOf storedIn
-      id-bytes = rw e (stored-bytes (partAt z c l (fileOf z c l g)) f (posOf z c l g) (part-bytes bc (fileOf z c l g)))
+      id-bytes = rw e (stored-bytes _ f (posOf z c l g) (part-bytes bc (fileOf z c l g)))
 
     pub agrees : (g : ℕ) → g < commitsIn z c l → Agrees z c l g
     agrees g h =
         let o = stands z c l .opens g h in
-        let t : Exact z c l (idOf z c l g) (lookupOf z c l (idOf z c l g)) = exact (idOf z c l g) (id-bytes g h (o .0) (o .1) (o .2)) (id-long g h (o .0) (o .1) (o .2)) in
+        let t : Exact z c l (idOf z c l g) (lookupOf z c l (idOf z c l g)) =
+        exact (idOf z c l g) (id-bytes g h (o .1) (o .2)) (id-long g h (o .1) (o .2)) in
         let r = t .whole g h refl in
         record { at = r .0; found = r .1; same = t .sound (r .0) (r .1); below = r .2; lowest = t .lowest (r .0) (r .1) }
 
   -- a lookup's answer, and what it promises beside
-  pub promised : (x : List ℕ) → Bytes c → Bytes x → (r : Found) → r ≡ lookupOf z c l x → (r ≡ lookupOf z c l x) × Promised z c l x r
+  pub promised : (x : List ℕ) → Bytes c → Bytes x → {r : Found} → r ≡ lookupOf z c l x → (r ≡ lookupOf z c l x) × Promised z c l x r
   unfolding Promised
-  promised x bc bx r e = (e, λ s w. rw e (exact s bc x bx w))
+  promised x bc bx e = (e, λ s w. rw e (exact s bc x bx w))

@@ -45,68 +45,71 @@ module _ (h : Hit) (sum : ℕ) (y : FileFound) where
   unfolding notedOf pickHit
   noted-seen e = rw e
 
-  pub noted-new : h .seen ≡ false → (v : FileFound) → y ≡ v → noteFile h sum v ≡ notedOf h sum y
+  pub noted-new : h .seen ≡ false → {v : FileFound} → y ≡ v → noteFile h sum v ≡ notedOf h sum y
   unfolding notedOf pickHit
-  noted-new e v q = rw (e, q)
+  noted-new e q = rw (e, q)
 
 pub record Looking (z : ℕ) (c l : List ℕ) (n : ℕ) (x : List ℕ) (k at sum : ℕ) (h : Hit) : Type 0 where
   pub along : Along z c l n k at sum
   pub answer : lookFrom z c l x 0 n ≡ hitOr h (lookFrom z c l x k (n - k))
 
-module _ (z : ℕ) (c l : List ℕ) (n : ℕ) (d : Listed z c l n) (x : List ℕ) where
+module _ {z : ℕ} {c l : List ℕ} {n : ℕ} (d : Listed z c l n) (x : List ℕ) where
   pub look-begins : (h : Hit) → h .seen ≡ false → Looking z c l n x 0 0 0 h
   unfolding hitOr pickFound
-  look-begins h e = record { along = along-begins z c l n d; answer = rw (e, sub-zero) }
+  look-begins h e = record { along = along-begins z c l d; answer = rw (e, sub-zero) }
 
-  module _ (k at sum : ℕ) (h : Hit) (p : Looking z c l n x k at sum h) where
+  module _ {k at sum : ℕ} {h : Hit} (p : Looking z c l n x k at sum h) where
     pub look-ends : n ≤ k → Looked z c l n x (record { refusal = refusal 0 0; hit = h })
     unfolding lookFrom
     look-ends g =
         let y : n - k ≡ 0 = omega arith in
-        record { refusal = along-ends z c l n d k at sum (p .along) g; answer = λ w. p .answer ∙ ap (λ (m : ℕ). hitOr h (lookFrom z c l x k m)) y }
+        record {
+          refusal = along-ends z c l d at sum (p .along) g;
+          answer = λ w. p .answer ∙ ap (λ (m : ℕ). hitOr h (lookFrom z c l x k m)) y;
+        }
 
     module _ (g : k < n) where
-      pub look-refused : (q : Refusal) → openAt z c l k ≡ Refused q → Looked z c l n x (record { refusal = placed k q; hit = h })
-      look-refused q e =
-          let w = along-refused z c l n d k at sum (p .along) g q e in
+      pub look-refused : {q : Refusal} → openAt z c l k ≡ Refused q → Looked z c l n x (record { refusal = placed k q; hit = h })
+      look-refused {q} e =
+          let w = along-refused z c l d at sum (p .along) g q e in
           record { refusal = w .0; answer = λ y. absurd (omega arith) }
 
-      module _ (f : File) (e : openAt z c l k ≡ Open f) where
+      module _ {f : File} (e : openAt z c l k ≡ Open f) where
         -- s is the file's part
-        pub look-next : (s : List ℕ) → s ≡ partAt z c l k
+        pub look-next : {s : List ℕ} → s ≡ partAt z c l k
             → Looking z c l n x (k + 1) (at + length s) (sum + f .commits) (notedOf h sum (lookupIn s f x))
         unfolding lookFrom findIn
-        look-next s q =
+        look-next {s} q =
             let b : n - k ≡ suc (n - (k + 1)) = omega arith in
             let y : FileFound = lookupIn s f x in
             let a : findAt z c l x k ≡ y = rw e (ap (λ (m : List ℕ). lookupIn m f x) (sym q)) in
             record {
-              along = along-next z c l n d k at sum (p .along) g f e (length s) (ap length q);
+              along = along-next z c l d at sum (p .along) g f e (length s) (ap length q);
               answer =
                   p .answer
                   ∙ ap (λ (m : ℕ). hitOr h (lookFrom z c l x k m)) b
                   ∙ ap (λ (m : FileFound). hitOr h (shift (firstAt z c l k) m (lookFrom z c l x (k + 1) (n - (k + 1))))) a
                   ∙ ap (λ (m : ℕ). hitOr h (shift m y (lookFrom z c l x (k + 1) (n - (k + 1))))) (sym (p .along .total))
-                  ∙ note-shift h sum y (lookFrom z c l x (k + 1) (n - (k + 1)));
+                  ∙ note-shift h sum y _;
             }
 
         -- a position that is found fits
         pub look-fits : (s : List ℕ) (i : ℕ) → lookupIn s f x ≡ found i → sum + i < 4294967296
-        look-fits s i w = omega (arith, found-below s f x i w, along-room z c l n d k at sum (p .along) g f e .0)
+        look-fits s i w = omega (arith, found-below s f x i w, along-room z c l d at sum (p .along) g f e .0)
 
 -- the ways through a lookup
 module _ (z : ℕ) (c l x : List ℕ) where
-  pub find-refused : (m : Refusal) → m ≡ opened z c l → 0 < m .number → Not m ≡ lookupOf z c l x
+  pub find-refused : {m : Refusal} → m ≡ opened z c l → 0 < m .number → Not m ≡ lookupOf z c l x
   unfolding lookupOf pickFound
-  find-refused m e h = rw (lt-ltb 0 (opened z c l .number) (omega (arith, numbers e))) (ap Not e)
+  find-refused e h = rw (lt-ltb 0 (opened z c l .number) (omega (arith, numbers e))) (ap Not e)
 
-  module _ (m : Refusal) (e : m ≡ opened z c l) (h : m .number ≤ 0) where
+  module _ {m : Refusal} (e : m ≡ opened z c l) (h : m .number ≤ 0) where
     none : ltb 0 (opened z c l .number) ≡ false
     none = le-ltb 0 (opened z c l .number) (omega (arith, numbers e))
 
-    pub find-width : (length x ≡ 20 → ⊥) → (q : Refusal) → q ≡ refusal 41 0 → Not q ≡ lookupOf z c l x
+    pub find-width : (length x ≡ 20 → ⊥) → {q : Refusal} → q ≡ refusal 41 0 → Not q ≡ lookupOf z c l x
     unfolding lookupOf pickFound
-    find-width g q d = rw (none, ne-not (length x) 20 g) (ap Not d)
+    find-width g d = rw (none, ne-not (length x) 20 g) (ap Not d)
 
     module _ (g : length x ≡ 20) (k : Hit) (a : lookFrom z c l x 0 (recordsOf z l) ≡ hitOr k Absent) where
       pub find-at : k .seen ≡ true → place (k .pos) ≡ lookupOf z c l x

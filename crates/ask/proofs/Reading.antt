@@ -35,36 +35,37 @@ use Rattle.graph.proofs.Spots.{spotted, unspotted, file-cut}
 use Rattle.graph.proofs.Views.{numbers}
 
 -- a part of a part, where the inner question met no refusal
-inner-part : {s p x : RefT (List ℕ)} (at n m j w : ℕ) → PartOf s at n p → m ≡ 0 → j + w ≤ n → AskedPart p m j w x → PartOf s (at + j) w x
+inner-part : {s p x : RefT (List ℕ)} {at n m : ℕ} (j w : ℕ) → PartOf s at n p → m ≡ 0 → j + w ≤ n → AskedPart p m j w x
+    → PartOf s (at + j) w x
 unfolding _if_else_
-inner-part {s} {p} {x} at n m j w q e h k =
+inner-part {s} {p} {x} {at} {m} j w q e h k =
     let y : PartOf p j w x = rw (eq-eqb m 0 e) at k in
     part-part q y h
 
 module _ (z : ℕ) (c : RefT (List ℕ)) (l : List ℕ) (g : ℕ) where
   -- the position is refused, with q
-  module _ (q : Refusal) (e : located z (c .now) l g ≡ Nowhere q) where
+  module _ {q : Refusal} (e : located z (c .now) l g ≡ Nowhere q) where
     met : (q ≡ asked z (c .now) l g) × (0 < q .number)
-    met = unspotted z (c .now) l g q e
+    met = unspotted z (c .now) l g e
 
     pub which-none : Met q ≡ askingBy (asked z (c .now) l g)
     unfolding askingBy pickAsking
     which-none = rw (lt-ltb 0 (asked z (c .now) l g .number) (omega (arith, numbers (met .0), met .1))) (ap Met (met .0))
 
     pub id-none : {x : RefT (List ℕ)} → PartOf c 0 0 x → IdPart z c l g x
-    id-none {x} p = part-none c x _ _ _ (q .number) (numbers (met .0)) (met .1) p
+    id-none {x} p = part-none c x _ _ _ (numbers (met .0)) (met .1) p
 
     pub tree-none : {x : RefT (List ℕ)} → PartOf c 0 0 x → TreePart z c l g x
-    tree-none {x} p = part-none c x _ _ _ (q .number) (numbers (met .0)) (met .1) p
+    tree-none {x} p = part-none c x _ _ _ (numbers (met .0)) (met .1) p
 
     pub commit-none : Not q ≡ commitOf z (c .now) l g
     unfolding commitOf pickAsked
     commit-none = rw (lt-ltb 0 (asked z (c .now) l g .number) (omega (arith, numbers (met .0), met .1))) (ap Not (met .0))
 
   -- it stands at r
-  module _ (r : Spot) (e : located z (c .now) l g ≡ At r) where
+  module _ {r : Spot} (e : located z (c .now) l g ≡ At r) where
     spot : Spotted z (c .now) l g r
-    spot = spotted z (c .now) l g r e
+    spot = spotted z (c .now) l g e
 
     pub which-fine : Fine ≡ askingBy (asked z (c .now) l g)
     unfolding askingBy pickAsking
@@ -73,34 +74,43 @@ module _ (z : ℕ) (c : RefT (List ℕ)) (l : List ℕ) (g : ℕ) where
     -- s is what was cut by it
     module _ {s : RefT (List ℕ)} (k : RecordsOf c (r .start) (r .size) 1 s) where
       cut : FileOf z c l r s
-      cut = file-cut z c l g r spot k
+      cut = file-cut c spot k
 
       whole : Opened (s .now) (r .inner)
       unfolding openAt
-      whole = rw (cut .bytes) (opened true (partAt z (c .now) l (r .file)) (r .inner) (spot .opens))
+      whole = rw (cut .bytes) (opened true _ (spot .opens))
 
       long : length (s .now) ≡ r .size
       long = part-length (cut .place) (spot .room)
 
       -- a question on the file's commit meets no refusal
       plain : askRule (s .now) (r .inner) (r .inner .commits) (r .pos .0) ≡ 0
-      plain = asked-plain (s .now) (r .inner) (r .inner .commits) (r .pos .0) (opened-fits (s .now) (r .inner) whole) (spot .high)
+      plain = asked-plain (s .now) (r .inner) (r .inner .commits) (r .pos .0) (opened-fits whole) (spot .high)
 
-      pub id-part : {x : RefT (List ℕ)} → AskedPart s (askRule (s .now) (r .inner) (r .inner .commits) (r .pos .0)) (r .inner .oidl + r .pos .0 * r .inner .width) (r .inner .width) x → IdPart z c l g x
+      pub id-part : {x : RefT (List ℕ)}
+          → AskedPart s (askRule (s .now) (r .inner) (r .inner .commits) (r .pos .0)) (r .inner .oidl + r .pos .0 * r .inner .width)
+          (r .inner .width) x
+          → IdPart z c l g x
       unfolding idIn widthIn _if_else_
       id-part p =
-          let room : r .inner .oidl + r .pos .0 * r .inner .width + r .inner .width ≤ r .size = omega (arith, whole .fitted .ids, run-within (r .pos .0) (r .inner .commits) (r .inner .width) (spot .high), long) in
-          rw (eq-eqb _ 0 (spot .fine), spot .file, spot .pos, spot .opens, spot .start) (inner-part _ _ _ _ _ (cut .place) plain room p)
+          let room : r .inner .oidl + r .pos .0 * r .inner .width + r .inner .width ≤ r .size =
+          omega (arith, whole .fitted .ids, run-within (r .pos .0) (r .inner .commits) (r .inner .width) (spot .high), long) in
+          rw (eq-eqb _ 0 (spot .fine), spot .file, spot .pos, spot .opens, spot .start) (inner-part _ _ (cut .place) plain room p)
 
-      pub tree-part : {x : RefT (List ℕ)} → AskedPart s (askRule (s .now) (r .inner) (r .inner .commits) (r .pos .0)) (r .inner .cdat + r .pos .0 * (r .inner .width + 16)) (r .inner .width) x → TreePart z c l g x
+      pub tree-part : {x : RefT (List ℕ)}
+          → AskedPart s (askRule (s .now) (r .inner) (r .inner .commits) (r .pos .0)) (r .inner .cdat + r .pos .0 * (r .inner .width + 16))
+          (r .inner .width) x
+          → TreePart z c l g x
       unfolding treeIn widthIn _if_else_
       tree-part p =
-          let room : r .inner .cdat + r .pos .0 * (r .inner .width + 16) + r .inner .width ≤ r .size = omega (arith, whole .fitted .rows, run-within (r .pos .0) (r .inner .commits) (r .inner .width + 16) (spot .high), long) in
-          rw (eq-eqb _ 0 (spot .fine), spot .file, spot .pos, spot .opens, spot .start) (inner-part _ _ _ _ _ (cut .place) plain room p)
+          let room : r .inner .cdat + r .pos .0 * (r .inner .width + 16) + r .inner .width ≤ r .size =
+          omega (arith, whole .fitted .rows, run-within (r .pos .0) (r .inner .commits) (r .inner .width + 16) (spot .high), long) in
+          rw (eq-eqb _ 0 (spot .fine), spot .file, spot .pos, spot .opens, spot .start) (inner-part _ _ (cut .place) plain room p)
 
-      pub commit-part : (a : Asked) → a ≡ commitAt (s .now) (r .inner) (r .pos .0) → a ≡ commitOf z (c .now) l g
+      pub commit-part : {a : Asked} → a ≡ commitAt (s .now) (r .inner) (r .pos .0) → a ≡ commitOf z (c .now) l g
       unfolding commitOf pickAsked commitIn
-      commit-part a p = p ∙ rw (le-ltb 0 (asked z (c .now) l g .number) (omega (arith, spot .fine)), spot .file, spot .pos, spot .opens, cut .bytes)
+      commit-part p =
+          p ∙ rw (le-ltb 0 (asked z (c .now) l g .number) (omega (arith, spot .fine)), spot .file, spot .pos, spot .opens, cut .bytes)
 
 -- a part of a part of a part: place j of the n bytes at `at` of a file, which has m bytes at a place of the chain
 inner : (c : List ℕ) (start m at n j w : ℕ) → j + w ≤ n → at + j + w ≤ m
@@ -119,7 +129,8 @@ reads-id z c l g r a p =
     let o = stands z (c .now) l .opens g (asked-below z (c .now) l g a) in
     let f : File = o .0 in
     let q : PartOf c (startAt z (c .now) l k + (f .oidl + i * f .width)) (f .width) r = rw (o .1, eq-eqb _ 0 a) at p in
-    let y = opened true (partAt z (c .now) l k) f (o .1) .fitted .ids in
+    let y = opened true (partAt z (c .now) l k) (o .1) .fitted .ids in
     let v : length (partAt z (c .now) l k) ≤ lengthAt z l k = simp length-take (omega arith) in
-    rw (o .1) (q .bytes ∙ sym (inner (c .now) (startAt z (c .now) l k) (lengthAt z l k) (f .oidl) (f .commits * f .width) (i * f .width) (f .width)
+    rw (o .1) (q .bytes
+    ∙ sym (inner (c .now) (startAt z (c .now) l k) (lengthAt z l k) (f .oidl) (f .commits * f .width) (i * f .width) (f .width)
     (run-within i (f .commits) (f .width) (o .2)) (omega (arith, run-within i (f .commits) (f .width) (o .2)))))

@@ -1,5 +1,5 @@
 -- What is met on a walk: each way through it, and what it says of the walk's rule, its parents and their highest generation.
-use Prim.Native.Nat.{ℕ, suc, _+_, _≤_, _<_, max}
+use Prim.Native.Nat.{ℕ, _+_, _≤_, _<_, max}
 use mathlib.Core.Bool.{Bool, true, false}
 use mathlib.Core.Path.{_≡_, refl}
 use native.Mathlib.Omega.{arith}
@@ -25,24 +25,27 @@ module _ (limit : ℕ) (gen : ℕ → ℕ) where
       unfolding metOf pickMet
       met-out l = rw (e, le-leb limit p l)
 
-      pub met-in : (top : ℕ) → p < limit → top ≡ max h (gen p) → metOf limit gen rest (n + 1) top ≡ metOf limit gen w n h
+      pub met-in : {top : ℕ} → p < limit → top ≡ max h (gen p) → metOf limit gen rest (n + 1) top ≡ metOf limit gen w n h
       unfolding metOf pickMet
-      met-in top l q = rw (e, lt-leb limit p l, q)
+      met-in l q = rw (e, lt-leb limit p l, q)
 
   -- one parent met: what is known of the rest
-  number-by : (b : Bool) (r n h : ℕ) (m : Met) → m .number ≡ r → pickMet b (record { number = 68; parents = n; highest = h }) m .number ≡ (68 if b else r)
+  number-by : (b : Bool) {r : ℕ} (n h : ℕ) (m : Met) → m .number ≡ r
+      → pickMet b (record { number = 68; parents = n; highest = h }) m .number ≡ (68 if b else r)
   unfolding pickMet _if_else_
-  number-by true r n h m e = refl
-  number-by false r n h m e = e
+  number-by true n h m e = refl
+  number-by false n h m e = e
 
   parents-by : (b : Bool) (n h k : ℕ) (m : Met) → (m .number ≡ 0 → m .parents ≡ k)
-      → pickMet b (record { number = 68; parents = n; highest = h }) m .number ≡ 0 → pickMet b (record { number = 68; parents = n; highest = h }) m .parents ≡ k
+      → pickMet b (record { number = 68; parents = n; highest = h }) m .number ≡ 0
+      → pickMet b (record { number = 68; parents = n; highest = h }) m .parents ≡ k
   unfolding pickMet
   parents-by true n h k m f e = absurd (omega arith)
   parents-by false n h k m f e = f e
 
   highest-by : (b : Bool) (n h k : ℕ) (m : Met) → (m .number ≡ 0 → m .highest ≡ k)
-      → pickMet b (record { number = 68; parents = n; highest = h }) m .number ≡ 0 → pickMet b (record { number = 68; parents = n; highest = h }) m .highest ≡ k
+      → pickMet b (record { number = 68; parents = n; highest = h }) m .number ≡ 0
+      → pickMet b (record { number = 68; parents = n; highest = h }) m .highest ≡ k
   unfolding pickMet
   highest-by true n h k m f e = absurd (omega arith)
   highest-by false n h k m f e = f e
@@ -51,15 +54,16 @@ module _ (limit : ℕ) (gen : ℕ → ℕ) where
   pub met-rule : (w : Walked) (n h : ℕ) → metOf limit gen w n h .number ≡ walkRule limit w
   unfolding metOf walkRule
   met-rule (ends r) n h = refl
-  met-rule (parent p w) n h = number-by (leb limit p) (walkRule limit w) n h _ (met-rule w (n + 1) (max h (gen p)))
+  met-rule (parent p w) n h = number-by (leb limit p) n h _ (met-rule w (n + 1) (max h (gen p)))
 
   pub met-count : (w : Walked) (n h : ℕ) → metOf limit gen w n h .number ≡ 0 → metOf limit gen w n h .parents ≡ n + length (positions w)
   unfolding metOf positions
   met-count (ends r) n h e = omega arith
-  met-count (parent p w) n h e = parents-by (leb limit p) n h (n + suc (length (positions w))) _ (λ z. omega (arith, met-count w (n + 1) (max h (gen p)) z)) e
+  met-count (parent p w) n h e = parents-by (leb limit p) n h _ _ (λ z. omega (arith, met-count w (n + 1) (max h (gen p)) z)) e
 
-  pub met-highest : (w : Walked) (n h : ℕ) → metOf limit gen w n h .number ≡ 0 → metOf limit gen w n h .highest ≡ max h (highestIn gen (positions w))
+  pub met-highest : (w : Walked) (n h : ℕ) → metOf limit gen w n h .number ≡ 0
+      → metOf limit gen w n h .highest ≡ max h (highestIn gen (positions w))
   unfolding metOf positions highestIn
   met-highest (ends r) n h e = omega arith
   met-highest (parent p w) n h e =
-      highest-by (leb limit p) n h (max h (max (gen p) (highestIn gen (positions w)))) _ (λ z. omega (arith, met-highest w (n + 1) (max h (gen p)) z)) e
+      highest-by (leb limit p) n h _ _ (λ z. omega (arith, met-highest w (n + 1) (max h (gen p)) z)) e

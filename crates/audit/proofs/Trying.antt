@@ -49,13 +49,13 @@ use Rattle.audit.proofs.Tabling.{few-positions}
 
 module _ (z : ℕ) (c l : List ℕ) (i w n : ℕ) (x y v e : List ℕ) (t : Bool) (q : Cut z c l i w n x y v e t) where
   pub cut-wide : Opened (partAt z c l i) (q .inner)
-  cut-wide = is-open z c l i (q .inner) (q .opens)
+  cut-wide = is-open z c l i (q .opens)
 
   holds : Holds (partsOf (partAt z c l i) (q .inner)) (q .inner .commits)
   holds = record {
     known = cut-wide .known;
-    ids = length-part (q .inner .oidl) (q .inner .commits * q .inner .width) (partAt z c l i) (cut-wide .fitted .ids);
-    rows = length-part (q .inner .cdat) (q .inner .commits * (q .inner .width + 16)) (partAt z c l i) (cut-wide .fitted .rows);
+    ids = length-part (q .inner .oidl) _ (partAt z c l i) (cut-wide .fitted .ids);
+    rows = length-part (q .inner .cdat) _ (partAt z c l i) (cut-wide .fitted .rows);
   }
 
   module _ (k : ℕ) (h : k < n) where
@@ -64,21 +64,22 @@ module _ (z : ℕ) (c l : List ℕ) (i w n : ℕ) (x y v e : List ℕ) (t : Bool
 
     told-entry : entryIn w x y v k ≡ entryAt (partAt z c l i) (openAt z c l i) k
     unfolding entryAt
-    told-entry = rw (q .opens, q .width, q .fan, q .ids, q .rows) (entry-is (partsOf (partAt z c l i) (q .inner)) (q .inner .commits) k holds below)
+    told-entry = rw (q .opens, q .width, q .fan, q .ids, q .rows) (entry-is k holds below)
 
     told-row : commitIn w v k ≡ Is (rowOf (partAt z c l i) (q .inner) k)
-    told-row = rw (q .width, q .rows) (row-is (partsOf (partAt z c l i) (q .inner)) (q .inner .commits) k holds below)
+    told-row = rw (q .width, q .rows) (row-is k holds below)
 
-    walk-is : (d : Commit) → d ≡ rowOf (partAt z c l i) (q .inner) k → firstWalk (d .first) (d .second) t e ≡ walkIn (partAt z c l i) (openAt z c l i) k
+    walk-is : {d : Commit} → d ≡ rowOf (partAt z c l i) (q .inner) k
+        → firstWalk (d .first) (d .second) t e ≡ walkIn (partAt z c l i) (openAt z c l i) k
     unfolding walkIn walkOf
-    walk-is d p = rw (q .opens, q .there, q .edge, p)
+    walk-is p = rw (q .opens, q .there, q .edge, p)
 
-    gen-is : (d : Commit) → d ≡ rowOf (partAt z c l i) (q .inner) k → d .generation ≡ genIn (partAt z c l i) (openAt z c l i) k
+    gen-is : {d : Commit} → d ≡ rowOf (partAt z c l i) (q .inner) k → d .generation ≡ genIn (partAt z c l i) (openAt z c l i) k
     unfolding genIn
-    gen-is d p = rw (q .opens, p)
+    gen-is p = rw (q .opens, p)
 
     -- m is what the entry met
-    module _ (m : ℕ) (u : m ≡ entryIn w x y v k) where
+    module _ {m : ℕ} (u : m ≡ entryIn w x y v k) where
       pub tried-entry : (r : Tried) → r .number ≡ m → 0 < m → TriedAs z c l i k r
       unfolding commitRule
       tried-entry r d g =
@@ -90,69 +91,71 @@ module _ (z : ℕ) (c l : List ℕ) (i w n : ℕ) (x y v e : List ℕ) (t : Bool
           }
 
       -- a is what was asked for
-      module _ (g : m ≤ 0) (a : Asked) (b : a ≡ commitIn w v k) where
+      module _ (g : m ≤ 0) {a : Asked} (b : a ≡ commitIn w v k) where
         none : entryAt (partAt z c l i) (openAt z c l i) k ≡ 0
         none = omega (arith, told-entry)
 
-        pub tried-none : (r : Refusal) → a ≡ Refused r → ⊥
-        tried-none r d = let o : _≡_ {A = ℕ} 0 1 = cc (told-row) in omega arith
+        pub tried-none : {r : Refusal} → a ≡ Refused r → ⊥
+        tried-none d = let o : _≡_ {A = ℕ} 0 1 = cc (told-row) in omega arith
 
         -- d is the commit, s how its parents went
-        module _ (d : Commit) (o : a ≡ Is d) (s : Met) (p : s ≡ metOf (firstAt z c l (i + 1)) (genAt z c l) (firstWalk (d .first) (d .second) t e) 0 0) where
+        module _ {d : Commit} (o : a ≡ Is d) {s : Met}
+            (p : s ≡ metOf (firstAt z c l (i + 1)) (genAt z c l) (firstWalk (d .first) (d .second) t e) 0 0) where
           row : d ≡ rowOf (partAt z c l i) (q .inner) k
           row = cc (told-row)
 
           met : s ≡ metOf (firstAt z c l (i + 1)) (genAt z c l) (walkIn (partAt z c l i) (openAt z c l i) k) 0 0
-          met = p ∙ rw (walk-is d row)
+          met = p ∙ rw (walk-is row)
 
           walked : s .number ≡ walkRule (firstAt z c l (i + 1)) (walkIn (partAt z c l i) (openAt z c l i) k)
-          walked = rw met (met-rule (firstAt z c l (i + 1)) (genAt z c l) (walkIn (partAt z c l i) (openAt z c l i) k) 0 0)
+          walked = rw met (met-rule (firstAt z c l (i + 1)) (genAt z c l) _ 0 0)
 
           pub tried-walk : (r : Tried) → 0 < s .number → r .number ≡ s .number → TriedAs z c l i k r
           unfolding commitRule
           tried-walk r j f =
               record {
-                number = f ∙ walked ∙ or-hit _ _ (omega (arith, walked)) ∙ sym (or-miss _ _ none);
+                number = f ∙ walked ∙ or-hit _ _ (omega (arith, walked)) ∙ sym (or-miss _ none);
                 parents = λ b. absurd (omega arith);
                 generation = λ b. absurd (omega arith);
               }
 
-          module _ (j : s .number ≤ 0) (f : ℕ) (right : f ≡ min (1 + s .highest) cap) where
+          module _ (j : s .number ≤ 0) {f : ℕ} (right : f ≡ min (1 + s .highest) cap) where
             right-is : f ≡ rightGen (genAt z c l) (positions (walkIn (partAt z c l i) (openAt z c l i) k))
             right-is =
-                let b : metOf (firstAt z c l (i + 1)) (genAt z c l) (walkIn (partAt z c l i) (openAt z c l i) k) 0 0 .number ≡ 0 = rw (← met) (omega arith) in
+                let b : metOf (firstAt z c l (i + 1)) (genAt z c l) (walkIn (partAt z c l i) (openAt z c l i) k) 0 0 .number ≡ 0 =
+                rw (← met) (omega arith) in
                 let y : s .highest ≡ max 0 (highestIn (genAt z c l) (positions (walkIn (partAt z c l i) (openAt z c l i) k))) =
-                ap (λ (a : Met). a .highest) met ∙ met-highest (firstAt z c l (i + 1)) (genAt z c l) (walkIn (partAt z c l i) (openAt z c l i) k) 0 0 b in
+                ap (λ (a : Met). a .highest) met ∙ met-highest (firstAt z c l (i + 1)) (genAt z c l) _ 0 0 b in
                 right ∙ ap (λ (a : ℕ). min (1 + a) cap) (omega arith)
 
             rest : commitRule z c l i k ≡ genRule z c l i k
             unfolding commitRule
-            rest = or-miss _ _ none ∙ or-miss _ _ (omega (arith, walked))
+            rest = or-miss _ none ∙ or-miss _ (omega (arith, walked))
 
             pub tried-gen : (r : Tried) → (d .generation ≡ f → ⊥) → r .number ≡ 69 → TriedAs z c l i k r
             unfolding genRule _if_else_
             tried-gen r b y =
-                let a = ne-not (genIn (partAt z c l i) (openAt z c l i) k) (rightGen (genAt z c l) (positions (walkIn (partAt z c l i) (openAt z c l i) k)))
-                (λ g. b (gen-is d row ∙ g ∙ sym right-is)) in
+                let a = ne-not _ _
+                (λ g. b (gen-is row ∙ g ∙ sym right-is)) in
                 record {
                   number = y ∙ sym (rest ∙ rw a);
                   parents = λ b. absurd (omega arith);
                   generation = λ b. absurd (omega arith);
                 }
 
-            pub tried-fine : (r : Tried) → d .generation ≡ f → r .number ≡ 0 → r .parents ≡ s .parents → r .generation ≡ d .generation → TriedAs z c l i k r
+            pub tried-fine : (r : Tried) → d .generation ≡ f → r .number ≡ 0 → r .parents ≡ s .parents → r .generation ≡ d .generation
+                → TriedAs z c l i k r
             unfolding genRule _if_else_
             tried-fine r b y u g =
-                let a = eq-not (genIn (partAt z c l i) (openAt z c l i) k) (rightGen (genAt z c l) (positions (walkIn (partAt z c l i) (openAt z c l i) k)))
-                (sym (gen-is d row) ∙ b ∙ right-is) in
-                let o : metOf (firstAt z c l (i + 1)) (genAt z c l) (walkIn (partAt z c l i) (openAt z c l i) k) 0 0 .number ≡ 0 = rw (← met) (omega arith) in
+                let a = eq-not _ _ (sym (gen-is row) ∙ b ∙ right-is) in
+                let o : metOf (firstAt z c l (i + 1)) (genAt z c l) (walkIn (partAt z c l i) (openAt z c l i) k) 0 0 .number ≡ 0 =
+                rw (← met) (omega arith) in
                 record {
                   number = y ∙ sym (rest ∙ rw a);
-                  parents = λ b.
-                      let n : s .parents ≡ 0 + length (positions (walkIn (partAt z c l i) (openAt z c l i) k)) =
-                      ap (λ (a : Met). a .parents) met ∙ met-count (firstAt z c l (i + 1)) (genAt z c l) (walkIn (partAt z c l i) (openAt z c l i) k) 0 0 o in
+                  parents = λ b. let n : s .parents ≡ 0 + length (positions (walkIn (partAt z c l i) (openAt z c l i) k)) =
+                      ap (λ (a : Met). a .parents) met ∙ met-count (firstAt z c l (i + 1)) (genAt z c l) _ 0 0 o in
                       omega arith;
-                  generation = λ b. g ∙ gen-is d row;
+                  generation = λ b. g ∙ gen-is row;
                 }
 
 -- ── all of them ──
@@ -168,18 +171,19 @@ module _ (z : ℕ) (c l : List ℕ) (i : ℕ) where
     pub highest : h ≡ highestBelow (genAt z c l) (firstAt z c l i + k)
     pub counts : t ≡ countsOf (keyAt z c l) (firstAt z c l i + k)
 
-  pub try-begins : (h : ℕ) (t : List ℕ) → t ≡ countsOf (keyAt z c l) (firstAt z c l i) → h ≡ highestBelow (genAt z c l) (firstAt z c l i) → Trying 0 h t
-  try-begins h t p q =
+  pub try-begins : {h : ℕ} {t : List ℕ} → t ≡ countsOf (keyAt z c l) (firstAt z c l i) → h ≡ highestBelow (genAt z c l) (firstAt z c l i)
+      → Trying 0 h t
+  try-begins p q =
       let a : firstAt z c l i + 0 ≡ firstAt z c l i = omega arith in
       record { sofar = sofar-begins (bad z c l i) (countAt z c l i); highest = rw a q; counts = rw a p }
 
-  module _ (b : i < recordsOf z l) (k h : ℕ) (t : List ℕ) (s : Trying k h t) where
+  module _ (b : i < recordsOf z l) {k h : ℕ} {t : List ℕ} (s : Trying k h t) where
     -- r is how commit k went
-    module _ (f : k < countAt z c l i) (r : Tried) (a : TriedAs z c l i k r) where
+    module _ (f : k < countAt z c l i) {r : Tried} (a : TriedAs z c l i k r) where
       pub try-stops : (x : Scanned) → 0 < r .number → x .number ≡ r .number → x .place ≡ k → ScannedAs z c l i x
       unfolding badCommit commitRules
       try-stops x g d p =
-          let y = sofar-stops (commitRule z c l i) (bad z c l i) bad-is (countAt z c l i) k (s .sofar) (r .number) f (a .number) g in
+          let y = sofar-stops (commitRule z c l i) bad-is (s .sofar) f (a .number) g in
           record {
             number = d ∙ y .1;
             place = p ∙ y .0;
@@ -187,7 +191,7 @@ module _ (z : ℕ) (c l : List ℕ) (i : ℕ) where
             highest = λ q. absurd (omega arith);
           }
 
-      module _ (g : r .number ≤ 0) (j : ℕ) (e : j ≡ keyOf (r .parents)) (m : j < 66) where
+      module _ (g : r .number ≤ 0) {j : ℕ} (e : j ≡ keyOf (r .parents)) (m : j < 66) where
         key-is : j ≡ keyAt z c l (firstAt z c l i + k)
         unfolding keyAt walkedAt
         key-is =
@@ -199,21 +203,21 @@ module _ (z : ℕ) (c l : List ℕ) (i : ℕ) where
         gen-here = a .generation (omega arith) ∙ rw (stands z c l .fileBack i k b f, stands z c l .posBack i k b f)
 
         pub try-small : getD t j 0 ≤ firstAt z c l i + k
-        try-small = counts-small (keyAt z c l) (firstAt z c l i + k) j t key-is m (s .counts)
+        try-small = counts-small (keyAt z c l) (firstAt z c l i + k) key-is m (s .counts)
 
-        pub try-next : (top : ℕ) → top ≡ max h (r .generation) → Trying (k + 1) top (set t j (getD t j 0 + 1))
-        try-next top x =
+        pub try-next : {top : ℕ} → top ≡ max h (r .generation) → Trying (k + 1) top (set t j (getD t j 0 + 1))
+        try-next {top} x =
             let o : firstAt z c l i + (k + 1) ≡ firstAt z c l i + k + 1 = omega arith in
             record {
-              sofar = sofar-next (commitRule z c l i) (bad z c l i) bad-is (countAt z c l i) k (s .sofar) (r .number) f (a .number) g;
-              highest = rw o (highest-adds (genAt z c l) (firstAt z c l i + k) h (r .generation) top gen-here (s .highest) x);
-              counts = rw o (counts-adds (keyAt z c l) (firstAt z c l i + k) j t key-is m (s .counts));
+              sofar = sofar-next (commitRule z c l i) bad-is (s .sofar) f (a .number) g;
+              highest = rw o (highest-adds (genAt z c l) (firstAt z c l i + k) h top gen-here (s .highest) x);
+              counts = rw o (counts-adds (keyAt z c l) (firstAt z c l i + k) key-is m (s .counts));
             }
 
     pub try-ends : countAt z c l i ≤ k → (x : Scanned) → x .number ≡ 0 → x .place ≡ k → x .highest ≡ h → x .counts ≡ t → ScannedAs z c l i x
     unfolding badCommit commitRules
     try-ends f x d p g m =
-        let y = sofar-ends (commitRule z c l i) (bad z c l i) bad-is (countAt z c l i) k (s .sofar) f in
+        let y = sofar-ends (commitRule z c l i) bad-is (s .sofar) f in
         let o : firstAt z c l (i + 1) ≡ firstAt z c l i + k = omega (arith, s .sofar .most, before-next (countAt z c l) i) in
         record {
           number = d ∙ y .1;
@@ -223,20 +227,25 @@ module _ (z : ℕ) (c l : List ℕ) (i : ℕ) where
         }
 
   -- how many positions there are up to commit k
-  pub try-few : (starts firsts rows : List ℕ) → Tabled z c l starts firsts rows → i < recordsOf z l → (k : ℕ) → k < countAt z c l i → (firstAt z c l i + k) * 36 ≤ 1073741824
-  try-few starts firsts rows t b k h = omega (arith, few-positions z c l t (i + 1) (omega arith), before-next (countAt z c l) i)
+  pub try-few : {starts firsts rows : List ℕ} → Tabled z c l starts firsts rows → i < recordsOf z l → (k : ℕ) → k < countAt z c l i
+      → (firstAt z c l i + k) * 36 ≤ 1073741824
+  try-few t b k h = omega (arith, few-positions z c l t (i + 1) (omega arith), before-next (countAt z c l) i)
 
 -- ── a file's parts ──
 
-module _ (z : ℕ) (c l : List ℕ) (i : ℕ) (b : i < recordsOf z l) (f : File) (o : openAt z c l i ≡ Open f) (s : RefT (List ℕ)) (p : s .now ≡ partAt z c l i) where
+module _ (z : ℕ) (c l : List ℕ) (i : ℕ) (b : i < recordsOf z l) {f : File} (o : openAt z c l i ≡ Open f) (s : RefT (List ℕ))
+    (p : s .now ≡ partAt z c l i) where
   here : Opened (s .now) f
-  here = rw p (is-open z c l i f o)
+  here = rw p (is-open z c l i o)
 
   -- what was cut out of its bytes
-  pub cut-made : (fan ids rows edge : RefT (List ℕ)) (there : Bool) → RecordsOf s (f .oidf) 256 4 fan → RecordsOf s (f .oidl) (f .commits) (f .width) ids
-      → RecordsOf s (f .cdat) (f .commits) (f .width + 16) rows → (at n : ℕ) → at ≡ startOf (f .edge) → n ≡ sizeOf (f .edge) → RecordsOf s at n 1 edge
-      → there ≡ not (absent (f .edge)) → Cut z c l i (f .width) (f .commits) (fan .now) (ids .now) (rows .now) (edge .now) there
-  cut-made fan ids rows edge there a d e at n q r g t =
+  pub cut-made : (fan ids rows edge : RefT (List ℕ)) {there : Bool} → RecordsOf s (f .oidf) 256 4 fan
+      → RecordsOf s (f .oidl) (f .commits) (f .width) ids
+      → RecordsOf s (f .cdat) (f .commits) (f .width + 16) rows → {at n : ℕ}
+      → at ≡ startOf (f .edge) → n ≡ sizeOf (f .edge) → RecordsOf s at n 1 edge
+      → there ≡ not (absent (f .edge))
+      → Cut z c l i (f .width) (f .commits) (fan .now) (ids .now) (rows .now) (edge .now) there
+  cut-made fan ids rows edge {there} a d e {at} {n} q r g t =
       record {
         inner = f;
         opens = o;
@@ -244,8 +253,10 @@ module _ (z : ℕ) (c l : List ℕ) (i : ℕ) (b : i < recordsOf z l) (f : File)
         width = refl;
         count = refl;
         fan = records-in s fan (f .oidf) 256 4 (here .fitted .fan) a .bytes ∙ ap (λ (u : List ℕ). take 1024 (drop (f .oidf) u)) p;
-        ids = records-in s ids (f .oidl) (f .commits) (f .width) (here .fitted .ids) d .bytes ∙ ap (λ (u : List ℕ). take (f .commits * f .width) (drop (f .oidl) u)) p;
-        rows = records-in s rows (f .cdat) (f .commits) (f .width + 16) (here .fitted .rows) e .bytes ∙ ap (λ (u : List ℕ). take (f .commits * (f .width + 16)) (drop (f .cdat) u)) p;
+        ids = records-in s ids (f .oidl) (f .commits) (f .width) (here .fitted .ids) d .bytes
+            ∙ ap (λ (u : List ℕ). take (f .commits * f .width) (drop (f .oidl) u)) p;
+        rows = records-in s rows (f .cdat) (f .commits) (f .width + 16) (here .fitted .rows) e .bytes
+            ∙ ap (λ (u : List ℕ). take (f .commits * (f .width + 16)) (drop (f .cdat) u)) p;
         edge = run-in s edge at n (omega (arith, here .fitted .edge)) g .bytes ∙ rw (q, r, p);
         there = t;
       }

@@ -15,10 +15,10 @@ use Rattle.block.specs.Message.{block, after}
 use Rattle.block.specs.Fips.{rotl, next, schedule, round, rounds}
 
 -- a store of the next word makes the first t words the first t + 1
-pub stored : (m w : List ℕ) (t v : ℕ) → t < length w → take t w ≡ schedule m t → v ≡ next m (take t w) t
+pub stored : (m w : List ℕ) (t : ℕ) {v : ℕ} → t < length w → take t w ≡ schedule m t → v ≡ next m (take t w) t
     → take (t + 1) (set w t v) ≡ schedule m (t + 1)
 unfolding schedule
-stored m w t v h e n = grown (schedule m) w t v h e (rw (n, e))
+stored m w t {v} h e n = grown (schedule m) w t v h e (rw (n, e))
 
 -- the next word, below 16 and from 16 on
 pub next-low : (m ws : List ℕ) (t : ℕ) → t < 16 → be 4 m (4 * t) ≡ next m ws t
@@ -38,11 +38,12 @@ next-high m w t h =
     )
 
 -- one more round
-pub turned : (w h s : List ℕ) (t : ℕ) → s ≡ rounds w h t → round t (getD w t 0) s ≡ rounds w h (t + 1)
+pub turned : (w h : List ℕ) {s : List ℕ} (t : ℕ) → s ≡ rounds w h t → round t (getD w t 0) s ≡ rounds w h (t + 1)
 unfolding rounds
-turned w h s t e = rw add-one (rw e)
+turned w h t e = rw add-one (rw e)
 
 -- one block more
-pub stepped : (step : List ℕ → List ℕ → List ℕ) (h s w : List ℕ) (i : ℕ) → w ≡ after step h s i → step w (block s i) ≡ after step h s (i + 1)
+pub stepped : (step : List ℕ → List ℕ → List ℕ) (h s : List ℕ) {w : List ℕ} (i : ℕ) → w ≡ after step h s i
+    → step w (block s i) ≡ after step h s (i + 1)
 unfolding after
-stepped step h s w i e = rw add-one (rw e)
+stepped step h s i e = rw add-one (rw e)

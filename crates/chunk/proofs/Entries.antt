@@ -41,7 +41,7 @@ bad-no l i r p q = le-ltb 0 (entryRule l i) (omega arith)
 pub ruleset searching = (first-begins, first-stop, first-step, first-ends, isAt-yes, isAt-no, seen-yes, seen-no, bad-yes, bad-no)
 
 -- a chunk that is found, and one that is not: e is where the search stopped
-module _ (l : List ℕ) (x c e : ℕ) (p : c ≡ chunks l) (q : e ≡ first (isAt l x) 0 c) where
+module _ (l : List ℕ) (x : ℕ) {c e : ℕ} (p : c ≡ chunks l) (q : e ≡ first (isAt l x) 0 c) where
   stopped : first (isAt l x) 0 (chunks l) ≡ e
   stopped = ap (first (isAt l x) 0) (sym p) ∙ sym q
 
@@ -59,7 +59,7 @@ unfolding refuseEntry
 refuse-some zero p rest h = absurd (omega arith)
 refuse-some (suc n) p rest h = refl
 
-module _ (l : List ℕ) (k : ℕ) (r : Refusal) (e : r ≡ refusal (indexRule l) (indexPlace l)) where
+module _ (l : List ℕ) (k : ℕ) {r : Refusal} (e : r ≡ refusal (indexRule l) (indexPlace l)) where
   told : r .number ≡ indexRule l
   told = ap (λ (x : Refusal). x .number) e
 
@@ -67,7 +67,7 @@ module _ (l : List ℕ) (k : ℕ) (r : Refusal) (e : r ≡ refusal (indexRule l)
   unfolding nthOf
   nth-refused h = ap Refused e ∙ refuse-some (indexRule l) (indexPlace l) _ (omega (arith, told))
 
-  module _ (h : r .number ≤ 0) (c : ℕ) (p : c ≡ chunks l) where
+  module _ (h : r .number ≤ 0) {c : ℕ} (p : c ≡ chunks l) where
     fine : indexRule l ≡ 0
     fine = omega (arith, told)
 

@@ -17,7 +17,7 @@ use Rattle.chunk.specs.Index.{chunks, idAt, offAt, isAt, rangeRule, entr
 use Rattle.chunk.specs.declared.Chunk.the-variants.{Absent}
 
 -- the ways through the table: c is the count, and e the first entry that is refused
-module _ (l : List ℕ) (c e : ℕ) (p : c ≡ chunks l) where
+module _ (l : List ℕ) {c : ℕ} (e : ℕ) (p : c ≡ chunks l) where
   pub index-cut : length l < 20 + 12 * c → refusal 6 0 ≡ refusal (indexRule l) (indexPlace l)
   unfolding indexRule indexPlace
   index-cut h =
@@ -36,12 +36,12 @@ module _ (l : List ℕ) (c e : ℕ) (p : c ≡ chunks l) where
     unfolding indexPlace
     place = miss 0 _ _ e whole (sym is-entry)
 
-    pub index-entry : (r : ℕ) → r ≡ entryRule l e → e < c → refusal r e ≡ refusal (indexRule l) (indexPlace l)
+    pub index-entry : {r : ℕ} → r ≡ entryRule l e → e < c → refusal r e ≡ refusal (indexRule l) (indexPlace l)
     unfolding indexRule
-    index-entry r d g =
+    index-entry {r} d g =
         ap₂ refusal (miss 6 _ _ r whole (rw is-entry (d ∙ hit (entryRule l e) _ _ (lt-ltb e (chunks l) (omega arith))))) place
 
-    module _ (g : c ≤ e) (r : ℕ) (d : r ≡ idAt l c) where
+    module _ (g : c ≤ e) {r : ℕ} (d : r ≡ idAt l c) where
       past : ltb e (chunks l) ≡ false
       past = le-ltb e (chunks l) (omega arith)
 
@@ -56,7 +56,8 @@ module _ (l : List ℕ) (c e : ℕ) (p : c ≡ chunks l) where
       pub index-fine : r ≡ 0 → refusal 0 e ≡ refusal (indexRule l) (indexPlace l)
       unfolding indexRule
       index-fine z =
-          ap₂ refusal (miss 6 _ _ 0 whole (rw is-entry (miss (entryRule l e) _ _ 0 past (miss 7 _ 0 0 (eq-via _ _ r at-last z) refl)))) place
+          ap₂ refusal (miss 6 _ _ 0 whole (rw is-entry (miss (entryRule l e) _ _ 0 past (miss 7 _ 0 0 (eq-via _ _ r at-last z) refl))))
+          place
 
 -- an entry that is not refused
 range-fine : (n low a e : ℕ) → rangeRule n low a e ≡ 0 → (low ≤ a) × (a ≤ e) × (e ≤ n)
@@ -82,7 +83,7 @@ not-bad l i h = omega (arith, ltb-false 0 (entryRule l i) h)
 
 is-bad : (l : List ℕ) → badEntry l < chunks l → 0 < entryRule l (badEntry l)
 unfolding badEntry bad
-is-bad l h = ltb-true 0 (entryRule l (first (bad l) 0 (chunks l))) (first-hit (bad l) 0 (chunks l) (omega arith))
+is-bad l h = ltb-true 0 _ (first-hit (bad l) 0 (chunks l) (omega arith))
 
 -- a sound index has no entry that is refused
 none-bad : (l : List ℕ) → chunks l ≤ badEntry l → (i : ℕ) → i < chunks l → entryRule l i ≡ 0
@@ -94,9 +95,9 @@ unfolding indexRule
 indexed l e =
     let p1 = pass 6 _ _ (lit< tt) e in
     let room : 20 + 12 * chunks l ≤ length l = ltb-false _ _ (p1 .0) in
-    let n : chunks l ≤ badEntry l =
-    ⊎-elim (λ (h : chunks l ≤ badEntry l). h)
-    (λ (h : badEntry l < chunks l). absurd (omega (arith, is-bad l h, pass (entryRule l (badEntry l)) _ _ (is-bad l h) (p1 .1) .0, ltb-false (badEntry l) (chunks l))))
+    let n : chunks l ≤ badEntry l = ⊎-elim (λ (h : chunks l ≤ badEntry l). h)
+    (λ (h : badEntry l < chunks l). absurd
+    (omega (arith, is-bad l h, pass _ _ _ (is-bad l h) (p1 .1) .0, ltb-false (badEntry l) (chunks l))))
     (le-or-lt (chunks l) (badEntry l)) in
     record {
       room = room;
@@ -106,9 +107,9 @@ indexed l e =
     }
 
 -- where a chunk of a sound index lies
-pub lies : (l : List ℕ) (x : ℕ) → Indexed l → Lies (length l) (20 + 12 * chunks l) (chunkOf l x)
+pub lies : {l : List ℕ} (x : ℕ) → Indexed l → Lies (length l) (20 + 12 * chunks l) (chunkOf l x)
 unfolding chunkOf pick chunkAt
-lies l x h = go (leb (chunks l) (first (isAt l x) 0 (chunks l))) refl
+lies {l} x h = go _ refl
   where
     go : (t : Bool) → leb (chunks l) (first (isAt l x) 0 (chunks l)) ≡ t
         → Lies (length l) (20 + 12 * chunks l) (pick t Absent (chunkAt l (first (isAt l x) 0 (chunks l))))

@@ -11,4 +11,13 @@ use Rattle.coins.specs.Coins.{All, coins}
 
 pub all-coins : All coins
 unfolding All edgeOf pickEdge extraOf pickExtra commitOf be edgeRule _if_else_ highestIn lengthOf lengthBy
-all-coins = (refl, (refl, (refl, (refl, (refl, (refl, (refl, (refl, (refl, (refl, (refl, (refl, (refl, (refl, (refl, (refl, (refl, (refl, tt))))))))))))))))))
+all-coins = (
+  refl,
+  (
+    refl,
+    (
+      refl,
+      (refl, (refl, (refl, (refl, (refl, (refl, (refl, (refl, (refl, (refl, (refl, (refl, (refl, (refl, (refl, tt))))))))))))))),
+    ),
+  ),
+)

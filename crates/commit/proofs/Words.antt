@@ -38,59 +38,61 @@ unfolding rowRule
 row-there w n i e =
     let p1 = pass 40 _ _ (lit< tt) e in
     let p2 = pass 40 _ _ (lit< tt) (p1 .1) in
-    (eqb-true _ _ (not-false _ (p1 .0)), ltb-false n (i * (w + 16) + (w + 16)) (p2 .0))
+    (eqb-true _ _ (not-false _ (p1 .0)), ltb-false n _ (p2 .0))
 
 refuse-some : (n : ℕ) (rest : Asked) → 0 < n → Refused (refusal n 0) ≡ refuseCommit n rest
 unfolding refuseCommit
 refuse-some zero rest h = absurd (omega arith)
 refuse-some (suc n) rest h = refl
 
-refuse-none : (n : ℕ) (rest : Asked) → n ≡ 0 → refuseCommit n rest ≡ rest
+refuse-none : {n : ℕ} (rest : Asked) → n ≡ 0 → refuseCommit n rest ≡ rest
 unfolding refuseCommit
-refuse-none n rest e = rw e
+refuse-none rest e = rw e
 
 -- the ways through a row, and through a commit of a file: m is what the rule said
-module _ (w : ℕ) (p : List ℕ) (i m : ℕ) (e : m ≡ rowRule w (length p) i) where
+module _ (w : ℕ) (p : List ℕ) (i : ℕ) {m : ℕ} (e : m ≡ rowRule w (length p) i) where
   pub commit-out : 0 < m → Refused (refusal m 0) ≡ commitIn w p i
   unfolding commitIn
   commit-out h = rw (← e) (refuse-some m _ h)
 
   pub commit-in : m ≤ 0 → Is (commitOf p (i * (w + 16) + w)) ≡ commitIn w p i
   unfolding commitIn
-  commit-in h = sym (refuse-none (rowRule w (length p) i) _ (omega arith))
+  commit-in h = sym (refuse-none _ (omega arith))
 
-pub commit-misfit : (l : List ℕ) (f : File) (i m : ℕ) → m ≡ askRule l f (f .commits) i → 0 < m → Refused (refusal m 0) ≡ commitAt l f i
+pub commit-misfit : (l : List ℕ) (f : File) (i : ℕ) {m : ℕ} → m ≡ askRule l f (f .commits) i → 0 < m
+    → Refused (refusal m 0) ≡ commitAt l f i
 unfolding commitAt
-commit-misfit l f i m e h = rw (← e) (refuse-some m _ h)
+commit-misfit l f i {m} e h = rw (← e) (refuse-some m _ h)
 
-pub commit-plain : (l : List ℕ) (f : File) (i : ℕ) → Answered l f (f .commits) i → Is (rowOf l f i) ≡ commitAt l f i
+pub commit-plain : {l : List ℕ} {f : File} {i : ℕ} → Answered l f (f .commits) i → Is (rowOf l f i) ≡ commitAt l f i
 unfolding commitAt
-commit-plain l f i k = sym (refuse-none _ _ (k .rule))
+commit-plain k = sym (refuse-none _ (k .rule))
 
 -- what an answer says of its question: x is the answer for commit i of a file
-refuse-given : (n : ℕ) (rest : Asked) (c : Commit) → refuseCommit n rest ≡ Is c → (n ≡ 0) × (rest ≡ Is c)
+refuse-given : (n : ℕ) (rest : Asked) {c : Commit} → refuseCommit n rest ≡ Is c → (n ≡ 0) × (rest ≡ Is c)
 unfolding refuseCommit
-refuse-given zero rest c e = (refl, e)
-refuse-given (suc n) rest c e = let z : _≡_ {A = ℕ} 0 1 = cc in absurd (omega arith)
+refuse-given zero rest e = (refl, e)
+refuse-given (suc n) rest e = let z : _≡_ {A = ℕ} 0 1 = cc in absurd (omega arith)
 
-refuse-barred : (n : ℕ) (d : Commit) (r : Refusal) → refuseCommit n (Is d) ≡ Refused r → (0 < n) × (r ≡ refusal n 0)
+refuse-barred : (n : ℕ) (d : Commit) {r : Refusal} → refuseCommit n (Is d) ≡ Refused r → (0 < n) × (r ≡ refusal n 0)
 unfolding refuseCommit
-refuse-barred zero d r e = let z : _≡_ {A = ℕ} 0 1 = cc in absurd (omega arith)
-refuse-barred (suc n) d r e = (omega arith, cc)
+refuse-barred zero d e = let z : _≡_ {A = ℕ} 0 1 = cc in absurd (omega arith)
+refuse-barred (suc n) d e = (omega arith, cc)
 
-module _ (l : List ℕ) (f : File) (i : ℕ) (x : Asked) (e : x ≡ commitAt l f i) where
-  pub commit-given : (c : Commit) → x ≡ Is c → Answered l f (f .commits) i × (c ≡ rowOf l f i)
+module _ (l : List ℕ) (f : File) (i : ℕ) {x : Asked} (e : x ≡ commitAt l f i) where
+  pub commit-given : {c : Commit} → x ≡ Is c → Answered l f (f .commits) i × (c ≡ rowOf l f i)
   unfolding commitAt
-  commit-given c h =
-      let k = refuse-given (askRule l f (f .commits) i) (Is (rowOf l f i)) c (sym e ∙ h) in
-      (answered l f (f .commits) i 0 (sym (k .0)) (omega arith), cc (k .1))
+  commit-given {c} h =
+      let k = refuse-given _ (Is (rowOf l f i)) (sym e ∙ h) in
+      (answered l f (f .commits) i (sym (k .0)) (omega arith), cc (k .1))
 
-  pub commit-barred : (r : Refusal) → x ≡ Refused r → (0 < askRule l f (f .commits) i) × (r ≡ refusal (askRule l f (f .commits) i) 0)
+  pub commit-barred : {r : Refusal} → x ≡ Refused r → (0 < askRule l f (f .commits) i) × (r ≡ refusal (askRule l f (f .commits) i) 0)
   unfolding commitAt
-  commit-barred r h = refuse-barred (askRule l f (f .commits) i) (rowOf l f i) r (sym e ∙ h)
+  commit-barred {r} h = refuse-barred _ (rowOf l f i) (sym e ∙ h)
 
 -- row i of a record that fits: where its fields lie in the rows' part p
-pub fields-room : (l p : List ℕ) (f : File) (i : ℕ) → Fitted l f → p ≡ rowsPart l f → i < f .commits → i * (f .width + 16) + f .width + 16 ≤ length p
-fields-room l p f i k e h =
-    let n : length (rowsPart l f) ≡ f .commits * (f .width + 16) = length-part (f .cdat) (f .commits * (f .width + 16)) l (k .rows) in
+pub fields-room : {l p : List ℕ} {f : File} (i : ℕ) → Fitted l f → p ≡ rowsPart l f → i < f .commits
+    → i * (f .width + 16) + f .width + 16 ≤ length p
+fields-room {l} {f} i k e h =
+    let n : length (rowsPart l f) ≡ f .commits * (f .width + 16) = length-part (f .cdat) _ l (k .rows) in
     rw e (omega (arith, run-within i (f .commits) (f .width + 16) h))

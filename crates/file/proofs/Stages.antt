@@ -36,8 +36,8 @@ pub refuse-none : (n p : ℕ) (rest r : Opening) → 0 ≡ n → r ≡ rest → 
 refuse-none n p rest r d g = refuse-no n 0 p rest r d (le-refl 0) g
 
 -- a refusal handed back whole
-pub refuse-as : (n p : ℕ) (i : Refusal) (rest : Opening) → i ≡ refusal n p → 0 < i .number → Refused i ≡ refuse n p rest
-refuse-as n p i rest e h =
+pub refuse-as : (n p : ℕ) {i : Refusal} (rest : Opening) → i ≡ refusal n p → 0 < i .number → Refused i ≡ refuse n p rest
+refuse-as n p {i} rest e h =
     refuse-yes n n p p rest (Refused i) refl refl (let z : i .number ≡ n = ap (λ (j : Refusal). j .number) e in omega arith) (ap Refused e)
 
 -- whether 20 is given: r is the entry that was found
@@ -69,6 +69,6 @@ unfolding width
 width-wide l = omega arith
 
 -- the part that was cut out of a file for a chunk that lies in it is the chunk's own bytes
-pub cut-part : (s r : RefT (List ℕ)) (c : Chunk) (a n : ℕ) → a ≡ startOf c → n ≡ sizeOf c → startOf c + sizeOf c ≤ length (s .now)
+pub cut-part : (s r : RefT (List ℕ)) (c : Chunk) {a n : ℕ} → a ≡ startOf c → n ≡ sizeOf c → startOf c + sizeOf c ≤ length (s .now)
     → RecordsOf s a n 1 r → r .now ≡ partOf (s .now) c
-cut-part s r c a n d e h p = records-in s r a n 1 (omega arith) p .bytes ∙ rw (mul-one, d, e)
+cut-part s r c {a} {n} d e h p = records-in s r a n 1 (omega arith) p .bytes ∙ rw (mul-one, d, e)

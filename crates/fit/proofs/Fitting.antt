@@ -19,8 +19,8 @@ use Rattle.fit.specs.Facts.{Opened}
 use Rattle.file.specs.declared.File.{File}
 
 -- a row of the table, where the records fit and where the row does not apply
-fits-row : (n at count w rest : ℕ) → at + count * w ≤ n → rest ≡ 0 → (40 if not (fits n at count w) else rest) ≡ 0
-fits-row n at count w rest h e = sym (miss 40 _ rest 0 (ap not (le-leb (at + count * w) n h)) (sym e))
+fits-row : (n at count w : ℕ) {rest : ℕ} → at + count * w ≤ n → rest ≡ 0 → (40 if not (fits n at count w) else rest) ≡ 0
+fits-row n at count w {rest} h e = sym (miss 40 _ rest 0 (ap not (le-leb (at + count * w) n h)) (sym e))
 
 row-fits : (n at count w rest : ℕ) → (40 if not (fits n at count w) else rest) ≡ 0 → (at + count * w ≤ n) × (rest ≡ 0)
 row-fits n at count w rest e =
@@ -43,16 +43,16 @@ width-is : (l : List ℕ) (f : File) → fitRule l f ≡ 0 → f .width ≡ 20
 unfolding fitRule
 width-is l f e = eqb-true _ _ (not-false _ (pass 40 _ _ (lit< tt) e .0))
 
-pub opened-fits : (l : List ℕ) (f : File) → Opened l f → fitRule l f ≡ 0
+pub opened-fits : {l : List ℕ} {f : File} → Opened l f → fitRule l f ≡ 0
 unfolding fitRule
-opened-fits l f o =
+opened-fits {l} {f} o =
     let k : Fitted l f = o .fitted in
     sym (miss 40 _ _ 0 (ap not (o .known)) (sym
-    (fits-row (length l) (f .oidf) 256 4 _ (k .fan)
-    (fits-row (length l) (f .oidl) (f .commits) (f .width) _ (k .ids)
-    (fits-row (length l) (f .cdat) (f .commits) (f .width + 16) _ (k .rows)
-    (fits-row (length l) (startOf (f .edge)) (sizeOf (f .edge)) 1 _ (rw mul-one (k .edge))
-    (fits-row (length l) (f .base) (f .bases) (f .width) _ (k .base) refl)))))))
+    (fits-row (length l) (f .oidf) 256 4 (k .fan)
+    (fits-row (length l) (f .oidl) (f .commits) (f .width) (k .ids)
+    (fits-row (length l) (f .cdat) (f .commits) (f .width + 16) (k .rows)
+    (fits-row (length l) (startOf (f .edge)) (sizeOf (f .edge)) 1 (rw mul-one (k .edge))
+    (fits-row (length l) (f .base) (f .bases) (f .width) (k .base) refl)))))))
 
 -- a question that meets no refusal, and one whose record fits
 module _ (l : List ℕ) (f : File) (n i : ℕ) where
@@ -69,7 +69,7 @@ module _ (l : List ℕ) (f : File) (n i : ℕ) where
   asked-plain e h = sym (miss (fitRule l f) _ _ 0 (le-ltb 0 (fitRule l f) (omega arith)) (miss 40 _ 0 0 (lt-leb n i h) refl))
 
 -- the ways through a question's rule: m is what the record's rule said
-module _ (l : List ℕ) (f : File) (n i m : ℕ) (e : m ≡ fitRule l f) where
+module _ (l : List ℕ) (f : File) (n i : ℕ) {m : ℕ} (e : m ≡ fitRule l f) where
   pub ask-misfit : 0 < m → m ≡ askRule l f n i
   unfolding askRule
   ask-misfit h = e ∙ hit (fitRule l f) _ _ (lt-ltb 0 (fitRule l f) (omega arith))
@@ -88,8 +88,8 @@ pub record Answered (l : List ℕ) (f : File) (n i : ℕ) : Type 0 where
   pub fits : Fitted l f
   pub below : i < n
 
-pub answered : (l : List ℕ) (f : File) (n i r : ℕ) → r ≡ askRule l f n i → r ≤ 0 → Answered l f n i
-answered l f n i r e h =
+pub answered : (l : List ℕ) (f : File) (n i : ℕ) {r : ℕ} → r ≡ askRule l f n i → r ≤ 0 → Answered l f n i
+answered l f n i e h =
     let z : askRule l f n i ≡ 0 = omega arith in
     let k = asked l f n i z in
     record { rule = z; width = width-is l f (k .0); fits = fitted l f (k .0); below = k .1 }
@@ -100,21 +100,22 @@ module _ (s r : RefT (List ℕ)) (m at n : ℕ) where
   unfolding _if_else_
   part-fine e p = rw (eq-eqb m 0 e) p
 
-  pub part-none : (k : ℕ) → k ≡ m → 0 < k → PartOf s 0 0 r → AskedPart s m at n r
+  pub part-none : {k : ℕ} → k ≡ m → 0 < k → PartOf s 0 0 r → AskedPart s m at n r
   unfolding _if_else_
-  part-none k d h p = rw (ne-eqb m 0 (λ e. omega arith)) p
+  part-none d h p = rw (ne-eqb m 0 (λ e. omega arith)) p
 
 -- record i of n lies before the end of n records
 pub run-within : (i n w : ℕ) → i < n → i * w + w ≤ n * w
 run-within i n w h = let m : suc i * w ≤ n * w = mul-le-mul-right w h in omega (arith, suc-mul i w)
 
 -- row i of the n rows of r bytes at a place of s, of which p is the part: it lies in p, and what is handed back lies in s
-module _ {s p : RefT (List ℕ)} (at n r i w : ℕ) (q : PartOf s at (n * r) p) (h : i < n) (g : w ≤ r) where
+module _ {s p : RefT (List ℕ)} {at : ℕ} (n r i w : ℕ) (q : PartOf s at (n * r) p) (h : i < n) (g : w ≤ r) where
   pub row-room : at + n * r ≤ length (s .now) → i * r + w ≤ length (p .now)
   row-room z = let l = part-length q z in omega (arith, run-within i n r h)
 
-  pub row-part : (m : ℕ) {x : RefT (List ℕ)} → m ≡ 0 → at + n * r ≤ length (s .now) → RecordsOf p (i * r) w 1 x → AskedPart s m (at + i * r) w x
-  row-part m {x} e z k =
+  pub row-part : {m : ℕ} {x : RefT (List ℕ)} → m ≡ 0 → at + n * r ≤ length (s .now) → RecordsOf p (i * r) w 1 x
+      → AskedPart s m (at + i * r) w x
+  row-part {m} {x} e z k =
       let y : PartOf p (i * r) w x = rw mul-one at (records-in p x (i * r) w 1 (rw mul-one (row-room z)) k) in
       part-fine s x m (at + i * r) w e (part-part q y (let u = run-within i n r h in omega arith))
 

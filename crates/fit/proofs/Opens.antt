@@ -1,12 +1,12 @@
 -- What an opened file gives to whoever reads it.
 use Prim.Native.Nat.{ℕ, zero, suc, _+_, _-_, _*_, _/_, _%_, _<_, _≤_}
 use mathlib.Core.List.{List}
-use mathlib.Core.Bool.{Bool, true, false, not, _&&_}
+use mathlib.Core.Bool.{Bool, true, false, _&&_}
 use mathlib.Core.Path.{_≡_, refl, ap}
 use native.Mathlib.Omega.{arith}
 use native.Mathlib.Nat.{div-add-mod', zero-mul}
 use borrow.Author.Tests.{ltb-false, eqb-true, not-false}
-use lib.Dec.{ltb, eqb, lit<}
+use lib.Dec.{ltb, lit<}
 use lib.ListN.{length, take, drop}
 use Rattle.types.specs.Refusals.{refusal}
 use Rattle.types.specs.declared.refusal.Refusal.{Refusal}
@@ -28,10 +28,10 @@ use Rattle.file.specs.declared.Opening.the-variants.{Open, Refused}
 use Rattle.file.proofs.Stages.{Headed, headed, width-wide}
 
 -- a stage before an opened file refused nothing
-pub opens : (n p : ℕ) (rest : Opening) (f : File) → refuse n p rest ≡ Open f → (n ≡ 0) × (rest ≡ Open f)
+pub opens : (n p : ℕ) (rest : Opening) {f : File} → refuse n p rest ≡ Open f → (n ≡ 0) × (rest ≡ Open f)
 unfolding refuse
-opens zero p rest f e = (refl, e)
-opens (suc n) p rest f e = let z : _≡_ {A = ℕ} 0 1 = cc in absurd (omega arith)
+opens zero p rest e = (refl, e)
+opens (suc n) p rest e = let z : _≡_ {A = ℕ} 0 1 = cc in absurd (omega arith)
 
 width-known : (l : List ℕ) → known (width l) ≡ true
 unfolding width
@@ -71,8 +71,8 @@ based : (w b : ℕ) (c : Chunk) → baseRules w b c ≡ 0 → ((absent c) && (lt
 unfolding baseRules _if_else_
 based w b Absent e g = let z : b ≡ 0 = omega (arith, ltb-false 0 b g) in rw (z, zero-mul)
 based w b (At p) e g =
-    let p1 = pass 10 (not (eqb (sizeOf (At p) % w) 0)) _ (lit< tt) e in
-    let p2 = pass 11 (not (eqb (sizeOf (At p) / w) b)) _ (lit< tt) (p1 .1) in
+    let p1 = pass 10 _ _ (lit< tt) e in
+    let p2 = pass 11 _ _ (lit< tt) (p1 .1) in
     whole (sizeOf (At p)) w b (eqb-true _ _ (not-false _ (p1 .0))) (eqb-true _ _ (not-false _ (p2 .0)))
 
 counted : (w n : ℕ) (x : Index) → countRules w n x ≡ 0 → (sizeOf (x .oidl) / w ≡ n) × (sizeOf (x .cdat) / (w + 16) ≡ n)
@@ -100,21 +100,21 @@ record Passed (t : Bool) (l : List ℕ) (f : File) : Type 0 where
   count : countRules (width l) (last (partOf l (indexOf l .oidf))) (indexOf l) ≡ 0
   is : fileOf (width l) (bases l) (indexOf l) (last (partOf l (indexOf l .oidf))) ≡ f
 
-passed : (t : Bool) (l : List ℕ) (f : File) → openingBy t l ≡ Open f → Passed t l f
+passed : (t : Bool) (l : List ℕ) {f : File} → openingBy t l ≡ Open f → Passed t l f
 unfolding openingBy chunked fanned
-passed t l f o =
-    let o1 = opens _ _ _ _ o in
-    let o2 = opens _ _ _ _ (o1 .1) in
-    let o3 = opens _ _ _ _ (o2 .1) in
-    let o4 = opens _ _ _ _ (o3 .1) in
-    let o5 = opens _ _ _ _ (o4 .1) in
-    let o6 = opens _ _ _ _ (o5 .1) in
+passed t l o =
+    let o1 = opens _ _ _ o in
+    let o2 = opens _ _ _ (o1 .1) in
+    let o3 = opens _ _ _ (o2 .1) in
+    let o4 = opens _ _ _ (o3 .1) in
+    let o5 = opens _ _ _ (o4 .1) in
+    let o6 = opens _ _ _ (o5 .1) in
     record { head = o1 .0; index = o2 .0; base = o3 .0; chunk = o4 .0; fan = o5 .0; count = o6 .0; is = cc }
 
-pub opened : (t : Bool) (l : List ℕ) (f : File) → openingBy t l ≡ Open f → Opened l f
+pub opened : (t : Bool) (l : List ℕ) {f : File} → openingBy t l ≡ Open f → Opened l f
 unfolding fileOf indexOf
-opened t l f o =
-    let k : Passed t l f = passed t l f o in
+opened t l {f} o =
+    let k : Passed t l f = passed t l o in
     let w : ℕ = width l in
     let x : Index = indexOf l in
     let n : ℕ = last (partOf l (x .oidf)) in
@@ -128,32 +128,33 @@ opened t l f o =
       fitted = record {
         wide = width-wide l .0;
         narrow = width-wide l .1;
-        fan = omega (arith, s .oidf, lies l 0x4f494446 i .inside);
-        ids = omega (arith, whole _ w n (s .oidl) (c .0), lies l 0x4f49444c i .inside);
-        rows = omega (arith, whole _ (w + 16) n (s .cdat) (c .1), lies l 0x43444154 i .inside);
-        edge = lies l 0x45444745 i .inside;
-        base = omega (arith, based w (bases l) (x .base) (k .base) (s .base), lies l 0x42415345 i .inside);
+        fan = omega (arith, s .oidf, lies 0x4f494446 i .inside);
+        ids = omega (arith, whole _ w n (s .oidl) (c .0), lies 0x4f49444c i .inside);
+        rows = omega (arith, whole _ (w + 16) n (s .cdat) (c .1), lies 0x43444154 i .inside);
+        edge = lies 0x45444745 i .inside;
+        base = omega (arith, based w (bases l) (x .base) (k .base) (s .base), lies 0x42415345 i .inside);
       };
       known = width-known l;
       bases = refl;
       count = ap (λ (j : ℕ). be 4 (take j (drop (startOf (x .oidf)) l)) 1020) (s .oidf);
     })
 
-pub rising : (l : List ℕ) (f : File) → opening l ≡ Open f → Rises l f
+pub rising : (l : List ℕ) {f : File} → opening l ≡ Open f → Rises l f
 unfolding fileOf
-rising l f o =
-    let k : Passed true l f = passed true l f o in
+rising l {f} o =
+    let k : Passed true l f = passed true l o in
     let s : Sized (width l) (bases l) (indexOf l) = sized (width l) (bases l) _ (indexOf l) (k .chunk) in
-    rw (← k .is) (record { rises = rw (s .oidf) at (risen (partOf l (indexOf l .oidf)) (k .fan)) })
+    rw (← k .is) (record { rises = rw (s .oidf) at (risen _ (k .fan)) })
 
 -- a refusal of opening has a number
-refuse-named : (n p : ℕ) (rest : Opening) (r : Refusal) → refuse n p rest ≡ Refused r → (rest ≡ Refused r → 0 < r .number) → 0 < r .number
+refuse-named : (n p : ℕ) (rest : Opening) {r : Refusal} → refuse n p rest ≡ Refused r → (rest ≡ Refused r → 0 < r .number) → 0 < r .number
 unfolding refuse
-refuse-named zero p rest r e h = h e
-refuse-named (suc n) p rest r e h = let z : refusal (suc n) p ≡ r = cc in let q : suc n ≡ r .number = ap (λ (x : Refusal). x .number) z in omega arith
+refuse-named zero p rest e h = h e
+refuse-named (suc n) p rest {r} e h =
+    let z : refusal (suc n) p ≡ r = cc in let q : suc n ≡ r .number = ap (λ (x : Refusal). x .number) z in omega arith
 
-pub refused-named : (t : Bool) (l : List ℕ) (r : Refusal) → openingBy t l ≡ Refused r → 0 < r .number
+pub refused-named : (t : Bool) (l : List ℕ) {r : Refusal} → openingBy t l ≡ Refused r → 0 < r .number
 unfolding openingBy chunked fanned
-refused-named t l r e =
-    refuse-named _ _ _ r e (λ e1. refuse-named _ _ _ r e1 (λ e2. refuse-named _ _ _ r e2 (λ e3. refuse-named _ _ _ r e3
-    (λ e4. refuse-named _ _ _ r e4 (λ e5. refuse-named _ _ _ r e5 (λ e6. let z : _≡_ {A = ℕ} 0 1 = cc in absurd (omega arith)))))))
+refused-named t l {r} e =
+    refuse-named _ _ _ e (λ e1. refuse-named _ _ _ e1 (λ e2. refuse-named _ _ _ e2 (λ e3. refuse-named _ _ _ e3
+    (λ e4. refuse-named _ _ _ e4 (λ e5. refuse-named _ _ _ e5 (λ e6. let z : _≡_ {A = ℕ} 0 1 = cc in absurd (omega arith)))))))

@@ -60,9 +60,9 @@ edge-back (At p) h =
     ap (λ (n : ℕ). At (record { start = p .start; end = n })) e
 
 -- the chunks of a sound index do
-level : (l : List ℕ) (x : ℕ) → Indexed l → length l ≤ 1073741824 → Level (chunkOf l x)
+level : {l : List ℕ} (x : ℕ) → Indexed l → length l ≤ 1073741824 → Level (chunkOf l x)
 unfolding chunkOf pick chunkAt Level
-level l x i m = go (leb (chunks l) (first (isAt l x) 0 (chunks l))) refl
+level {l} x i m = go _ refl
   where
     go : (t : Bool) → leb (chunks l) (first (isAt l x) 0 (chunks l)) ≡ t
         → Level (pick t Absent (chunkAt l (first (isAt l x) 0 (chunks l))))
@@ -77,27 +77,27 @@ level l x i m = go (leb (chunks l) (first (isAt l x) 0 (chunks l))) refl
         (omega arith, omega arith)
 
 -- what an opened file keeps of its EDGE chunk
-edge-kept : (l : List ℕ) (f : File) → opening l ≡ Open f → (indexRule l ≡ 0) × (chunkOf l 0x45444745 ≡ f .edge)
+edge-kept : (l : List ℕ) {f : File} → opening l ≡ Open f → (indexRule l ≡ 0) × (chunkOf l 0x45444745 ≡ f .edge)
 unfolding openingBy chunked fanned filed indexOf
-edge-kept l f o =
-    let o1 = opens _ _ _ _ o in
-    let o2 = opens _ _ _ _ (o1 .1) in
-    let o3 = opens _ _ _ _ (o2 .1) in
-    let o4 = opens _ _ _ _ (o3 .1) in
-    let o5 = opens _ _ _ _ (o4 .1) in
-    let o6 = opens _ _ _ _ (o5 .1) in
+edge-kept l {f} o =
+    let o1 = opens _ _ _ o in
+    let o2 = opens _ _ _ (o1 .1) in
+    let o3 = opens _ _ _ (o2 .1) in
+    let o4 = opens _ _ _ (o3 .1) in
+    let o5 = opens _ _ _ (o4 .1) in
+    let o6 = opens _ _ _ (o5 .1) in
     (o2 .0, edge-of-open (o6 .1))
   where
     edge-of-open : {a : File} → Open a ≡ Open f → a .edge ≡ f .edge
     edge-of-open {a} e = let z : a ≡ f = cc in ap (λ (x : File). x .edge) z
 
-file-back : (l : List ℕ) (f : File) → Bytes l → opening l ≡ Open f → fileOf (recordOf f) ≡ f
+file-back : (l : List ℕ) {f : File} → Bytes l → opening l ≡ Open f → fileOf (recordOf f) ≡ f
 unfolding fileOf recordOf Level
-file-back l f b o =
-    let k = edge-kept l f o in
-    let q : Opened l f = gives true l f o in
+file-back l {f} b o =
+    let k = edge-kept l o in
+    let q : Opened l f = gives true l o in
     let n : f .bases < 256 = omega (arith, q .bases, b 7) in
-    let h : Level (f .edge) = rw (← k .1) (level l 0x45444745 (indexed l (k .0)) (q .most)) in
+    let h : Level (f .edge) = rw (← k .1) (level 0x45444745 (indexed l (k .0)) (q .most)) in
     ap₂ (λ (n : ℕ) (c : Chunk). record {
       commits = f .commits;
       bases = n;
@@ -110,9 +110,9 @@ file-back l f b o =
     }) (mod-eq-of-lt n) (edge-back (f .edge) h)
 
 -- what opening ensures of its record
-pub opened : (l : List ℕ) (r : Handed) → Bytes l → r ≡ flatOpened (opening l) → (r ≡ flatOpened (opening l)) × Returns l r
+pub opened : (l : List ℕ) {r : Handed} → Bytes l → r ≡ flatOpened (opening l) → (r ≡ flatOpened (opening l)) × Returns l r
 unfolding flatOpened
-opened l r b e = (e, λ f o. ap (λ (x : Handed). fileOf (x .«record»)) (e ∙ ap flatOpened o) ∙ file-back l f b o)
+opened l b e = (e, λ f o. ap (λ (x : Handed). fileOf (x .«record»)) (e ∙ ap flatOpened o) ∙ file-back l b o)
 
 -- ── a phase ──
 
@@ -131,15 +131,16 @@ step-back (Refused r) s = phase-back s
 step-back End s = phase-back s
 
 -- and so on a chain, where the walk keeps its commit
-pub walk-back : (z : ℕ) (c l : List ℕ) (w : Walk) → walkOf (w .commit .0) (flatWalked (stepOf z c l w) .phase) (flatWalked (stepOf z c l w) .edge) ≡ stepOf z c l w .next
+pub walk-back : (z : ℕ) (c l : List ℕ) (w : Walk)
+    → walkOf (w .commit .0) (flatWalked (stepOf z c l w) .phase) (flatWalked (stepOf z c l w) .edge) ≡ stepOf z c l w .next
 walk-back z c l w =
     ap₂ (λ (p : Position) (s : Phase). record { commit = p; phase = s })
-    (sym (keeps z c l w .commit)) (step-back (stepOf z c l w .answer) (stepOf z c l w .next .phase))
+    (sym (keeps z c l w .commit)) (step-back (stepOf z c l w .answer) _)
 
 -- what a step ensures, from its equation
-pub stepped : (x : Stepped) (r : Step) → r ≡ flatStepped x → (r ≡ flatStepped x) × (phaseOf (r .phase) (r .edge) ≡ x .next)
-stepped x r e = (e, ap (λ (y : Step). phaseOf (y .phase) (y .edge)) e ∙ step-back (x .answer) (x .next))
+pub stepped : (x : Stepped) {r : Step} → r ≡ flatStepped x → (r ≡ flatStepped x) × (phaseOf (r .phase) (r .edge) ≡ x .next)
+stepped x e = (e, ap (λ (y : Step). phaseOf (y .phase) (y .edge)) e ∙ step-back (x .answer) (x .next))
 
-pub walked : (z : ℕ) (c l : List ℕ) (w : Walk) (r : Step) → r ≡ flatWalked (stepOf z c l w)
+pub walked : (z : ℕ) (c l : List ℕ) (w : Walk) {r : Step} → r ≡ flatWalked (stepOf z c l w)
     → (r ≡ flatWalked (stepOf z c l w)) × (walkOf (w .commit .0) (r .phase) (r .edge) ≡ stepOf z c l w .next)
-walked z c l w r e = (e, ap (λ (y : Step). walkOf (w .commit .0) (y .phase) (y .edge)) e ∙ walk-back z c l w)
+walked z c l w e = (e, ap (λ (y : Step). walkOf (w .commit .0) (y .phase) (y .edge)) e ∙ walk-back z c l w)

@@ -39,33 +39,34 @@ module _ (old : Mark) (g sum next k at n : ℕ) (f : File) where
   kept-after h e = rw (le-ltb g sum h, le-leb next g e)
 
   pub kept-here : sum ≤ g → g < next
-      → _≡_ {A = Mark} (record { found = true; spot = record { file = k; start = at; size = n; pos = record { 0 = g - sum }; inner = f } }) (keptOf old g sum next k at n f)
+      → _≡_ {A = Mark} (record { found = true; spot = record { file = k; start = at; size = n; pos = record { 0 = g - sum }; inner = f } })
+      (keptOf old g sum next k at n f)
   unfolding keptOf pickMark
   kept-here h e = rw (le-ltb g sum h, lt-leb next g e)
 
 module _ (z : ℕ) (c l : List ℕ) where
   -- a file's commits, and how many they can be
-  count-open : (k : ℕ) (f : File) → openAt z c l k ≡ Open f → countAt z c l k ≡ f .commits
+  count-open : (k : ℕ) {f : File} → openAt z c l k ≡ Open f → countAt z c l k ≡ f .commits
   unfolding countAt commitsOf
-  count-open k f e = rw e
+  count-open k e = rw e
 
-  few-commits : (k : ℕ) (f : File) → openAt z c l k ≡ Open f → f .commits * 36 ≤ length (partAt z c l k)
+  few-commits : (k : ℕ) {f : File} → openAt z c l k ≡ Open f → f .commits * 36 ≤ length (partAt z c l k)
   unfolding openAt
-  few-commits k f e =
-      let o : Opened (partAt z c l k) f = opened true (partAt z c l k) f e in
+  few-commits k {f} e =
+      let o : Opened (partAt z c l k) f = opened true (partAt z c l k) e in
       let w : f .width ≡ 20 = eqb-true (f .width) 20 (o .known) in
       let r : f .cdat + f .commits * (f .width + 16) ≤ length (partAt z c l k) = o .fitted .rows in
       let s : f .cdat + f .commits * (20 + 16) ≤ length (partAt z c l k) = rw w at r in
       omega arith
 
   -- one file more is open; a file is not
-  from-open : (k left : ℕ) (f : File) → openAt z c l k ≡ Open f → openFrom z c l k (suc left) ≡ openFrom z c l (k + 1) left
+  from-open : (k left : ℕ) {f : File} → openAt z c l k ≡ Open f → openFrom z c l k (suc left) ≡ openFrom z c l (k + 1) left
   unfolding openFrom openOr
-  from-open k left f e = rw e
+  from-open k left e = rw e
 
-  from-refused : (k left : ℕ) (r : Refusal) → openAt z c l k ≡ Refused r → openFrom z c l k (suc left) ≡ placed k r
+  from-refused : (k left : ℕ) {r : Refusal} → openAt z c l k ≡ Refused r → openFrom z c l k (suc left) ≡ placed k r
   unfolding openFrom openOr
-  from-refused k left r e = rw e
+  from-refused k left e = rw e
 
   -- what stands when a pass is at file k, which starts at `at`, with sum commits before it
   pub record Along (n k at sum : ℕ) : Type 0 where
@@ -80,11 +81,11 @@ module _ (z : ℕ) (c l : List ℕ) where
     pub kept : Kept z c l g k r
 
   -- what was opened is file k
-  pub open-is : (k : ℕ) (s : List ℕ) (o v : Opening) → s ≡ partAt z c l k → o ≡ opening s → o ≡ v → openAt z c l k ≡ v
+  pub open-is : (k : ℕ) {s : List ℕ} {o v : Opening} → s ≡ partAt z c l k → o ≡ opening s → o ≡ v → openAt z c l k ≡ v
   unfolding openAt
-  open-is k s o v p q e = ap opening (sym p) ∙ sym q ∙ e
+  open-is k p q e = ap opening (sym p) ∙ sym q ∙ e
 
-  module _ (n : ℕ) (d : Listed z c l n) where
+  module _ {n : ℕ} (d : Listed z c l n) where
     pub file-room : (k : ℕ) → k < n → startAt z c l k + lengthAt z l k ≤ length c
     file-room k h = omega (arith, before-lt (lengthAt z l) k n h, d .files)
 
@@ -101,11 +102,14 @@ module _ (z : ℕ) (c l : List ℕ) where
     pass-begins g r e =
         record {
           along = along-begins;
-          kept = record { holds = λ y. (let w : _≡_ {A = Bool} true false = sym y ∙ e in let v : _≡_ {A = ℕ} 0 1 = cc in absurd (omega arith)); outside = λ y. omega arith };
+          kept = record {
+            holds = λ y. (let w : _≡_ {A = Bool} true false = sym y ∙ e in let v : _≡_ {A = ℕ} 0 1 = cc in absurd (omega arith));
+            outside = λ y. omega arith;
+          };
         }
 
     -- a step from file k, where a file is refused, is open, or there is none
-    module _ (k at sum : ℕ) (p : Along n k at sum) where
+    module _ {k : ℕ} (at sum : ℕ) (p : Along n k at sum) where
       pub along-ends : n ≤ k → refusal 0 0 ≡ openFrom z c l 0 n
       unfolding openFrom
       along-ends h = let y : n - k ≡ 0 = omega arith in sym (p .rest ∙ ap (openFrom z c l k) y)
@@ -117,11 +121,11 @@ module _ (z : ℕ) (c l : List ℕ) where
         pub along-refused : (q : Refusal) → openAt z c l k ≡ Refused q → (placed k q ≡ openFrom z c l 0 n) × (0 < q .number)
         unfolding openAt
         along-refused q e =
-            (sym (p .rest ∙ ap (openFrom z c l k) ahead ∙ from-refused k (n - (k + 1)) q e), refused-named true (partAt z c l k) q e)
+            (sym (p .rest ∙ ap (openFrom z c l k) ahead ∙ from-refused k (n - (k + 1)) e), refused-named true (partAt z c l k) e)
 
         module _ (f : File) (e : openAt z c l k ≡ Open f) where
           pub counted : before (countAt z c l) (k + 1) ≡ sum + f .commits
-          counted = before-next (countAt z c l) k ∙ rw (count-open k f e) (omega (arith, p .total))
+          counted = before-next (countAt z c l) k ∙ rw (count-open k e) (omega (arith, p .total))
 
           pub along-next : (m : ℕ) → m ≡ length (partAt z c l k) → Along n (k + 1) (at + m) (sum + f .commits)
           along-next m y =
@@ -129,73 +133,71 @@ module _ (z : ℕ) (c l : List ℕ) where
                 few = omega arith;
                 place = omega (arith, before-next (lengthAt z l) k, part-long k h, p .place);
                 total = sym counted;
-                small = omega (arith, few-commits k f e, p .small);
-                rest = p .rest ∙ ap (openFrom z c l k) ahead ∙ from-open k (n - (k + 1)) f e;
+                small = omega (arith, few-commits k e, p .small);
+                rest = p .rest ∙ ap (openFrom z c l k) ahead ∙ from-open k (n - (k + 1)) e;
               }
 
           -- the sum fits, and so does the next place
           pub along-room : (sum + f .commits ≤ 1073741824) × (at + length (partAt z c l k) ≤ 1073741824)
           along-room =
-              let a = few-commits k f e in
+              let a = few-commits k e in
               let b = part-long k h in
               let y = file-room k h in
               (omega (arith, p .small, p .place, d .most), omega (arith, p .place, d .most))
 
-    more : (g k : ℕ) (r : Spot) → Holds z c l g k r → Holds z c l g (k + 1) r
-    more g k r h = record { below = omega (arith, h .below); start = h .start; size = h .size; sum = h .sum; high = h .high; inner = h .inner }
+    more : {g k : ℕ} {r : Spot} → Holds z c l g k r → Holds z c l g (k + 1) r
+    more h =
+        record { below = omega (arith, h .below); start = h .start; size = h .size; sum = h .sum; high = h .high; inner = h .inner }
 
     -- what was said of the first k files holds with one file more
-    module _ (g k at sum : ℕ) (r : Mark) (p : Passing n g k at sum r) (h : k < n) where
-      pub pass-refused : (q : Refusal) → openAt z c l k ≡ Refused q
+    module _ {g k at sum : ℕ} {r : Mark} (p : Passing n g k at sum r) (h : k < n) where
+      pub pass-refused : {q : Refusal} → openAt z c l k ≡ Refused q
           → Surveyed z c l n g (record { refusal = placed k q; commits = sum; mark = r })
-      pass-refused q e =
-          let w = along-refused k at sum (p .along) h q e in
+      pass-refused {q} e =
+          let w = along-refused at sum (p .along) h q e in
           record { refusal = w .0; commits = λ y. absurd (omega arith); kept = λ y. absurd (omega arith) }
 
-      module _ (f : File) (e : openAt z c l k ≡ Open f) where
-        keep-step : (m : ℕ) → m ≡ length (partAt z c l k) → Kept z c l g (k + 1) (keptOf r g sum (sum + f .commits) k at m f)
-        keep-step m y =
-            ⊎-elim
-            (λ (a : sum ≤ g).
-            ⊎-elim
-            (λ (b : sum + f .commits ≤ g).
-            subst (Kept z c l g (k + 1)) (kept-after r g sum (sum + f .commits) k at m f a b)
-            (record { holds = λ w. more g k (r .spot) (p .kept .holds w); outside = λ w. omega (arith, counted k at sum (p .along) h f e) }))
-            (λ (b : g < sum + f .commits).
-            subst (Kept z c l g (k + 1)) (kept-here r g sum (sum + f .commits) k at m f a b)
+      module _ {f : File} (e : openAt z c l k ≡ Open f) where
+        keep-step : {m : ℕ} → m ≡ length (partAt z c l k) → Kept z c l g (k + 1) (keptOf r g sum (sum + f .commits) k at m f)
+        keep-step {m} y =
+            ⊎-elim (λ (a : sum ≤ g). ⊎-elim
+            (λ (b : sum + f .commits ≤ g). subst (Kept z c l g (k + 1)) (kept-after r g sum (sum + f .commits) k at m f a b)
+            (record { holds = λ w. more (p .kept .holds w); outside = λ w. omega (arith, counted at sum (p .along) h f e) }))
+            (λ (b : g < sum + f .commits). subst (Kept z c l g (k + 1)) (kept-here r g sum (sum + f .commits) k at m f a b)
             (record {
-              holds = λ w.
-                  record {
-                    below = omega arith;
-                    start = p .along .place;
-                    size = y ∙ part-long k h;
-                    sum = omega (arith, p .along .total);
-                    high = rw (count-open k f e) (omega arith);
-                    inner = e;
-                  };
+              holds = λ w. record {
+                below = omega arith;
+                start = p .along .place;
+                size = y ∙ part-long k h;
+                sum = omega (arith, p .along .total);
+                high = rw (count-open k e) (omega arith);
+                inner = e;
+              };
               outside = λ w. (let v : _≡_ {A = ℕ} 0 1 = cc in absurd (omega arith));
-            }))
-            (le-or-lt (sum + f .commits) g))
-            (λ (a : g < sum).
-            subst (Kept z c l g (k + 1)) (kept-before r g sum (sum + f .commits) k at m f a)
-            (record { holds = λ w. more g k (r .spot) (p .kept .holds w); outside = λ w. absurd (omega (arith, p .along .total, p .kept .outside w)) }))
-            (le-or-lt sum g)
+            })) (le-or-lt (sum + f .commits) g))
+            (λ (a : g < sum). subst (Kept z c l g (k + 1)) (kept-before r g sum (sum + f .commits) k at m f a)
+            (record {
+              holds = λ w. more (p .kept .holds w);
+              outside = λ w. absurd (omega (arith, p .along .total, p .kept .outside w));
+            })) (le-or-lt sum g)
 
-        pub pass-next : (m : ℕ) → m ≡ length (partAt z c l k)
+        pub pass-next : {m : ℕ} → m ≡ length (partAt z c l k)
             → Passing n g (k + 1) (at + m) (sum + f .commits) (keptOf r g sum (sum + f .commits) k at m f)
-        pass-next m y = record { along = along-next k at sum (p .along) h f e m y; kept = keep-step m y }
+        pass-next {m} y = record { along = along-next at sum (p .along) h f e m y; kept = keep-step y }
 
-    pub pass-ends : (g k at sum : ℕ) (r : Mark) → Passing n g k at sum r → n ≤ k → Surveyed z c l n g (record { refusal = refusal 0 0; commits = sum; mark = r })
-    pass-ends g k at sum r p h =
+    pub pass-ends : {g k at sum : ℕ} {r : Mark} → Passing n g k at sum r → n ≤ k
+        → Surveyed z c l n g (record { refusal = refusal 0 0; commits = sum; mark = r })
+    pass-ends {k} {at} {sum} p h =
         let q : k ≡ n = omega (arith, p .along .few) in
         record {
-          refusal = along-ends k at sum (p .along) h;
+          refusal = along-ends at sum (p .along) h;
           commits = λ w. p .along .total ∙ ap (before (countAt z c l)) q;
           kept = λ w. rw q at (p .kept);
         }
 
 -- what is cut from the chain is file k
-pub part-is : (z : ℕ) (s : RefT (List ℕ)) (l : List ℕ) (n : ℕ) (d : Listed z (s .now) l n) (k at m : ℕ) → k < n → at ≡ startAt z (s .now) l k → m ≡ lengthAt z l k
+pub part-is : {z : ℕ} (s : RefT (List ℕ)) {l : List ℕ} {n : ℕ} (d : Listed z (s .now) l n) (k : ℕ) {at m : ℕ} → k < n
+    → at ≡ startAt z (s .now) l k → m ≡ lengthAt z l k
     → (x : RefT (List ℕ)) → RecordsOf s at m 1 x → x .now ≡ partAt z (s .now) l k
 unfolding partAt
-part-is z s l n d k at m h e y x p = run-in s x at m (omega (arith, file-room z (s .now) l n d k h)) p .bytes ∙ rw (e, y)
+part-is {z} s {l} {n} d k {at} {m} h e y x p = run-in s x at m (omega (arith, file-room z (s .now) l d k h)) p .bytes ∙ rw (e, y)

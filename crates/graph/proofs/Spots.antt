@@ -29,15 +29,15 @@ use Rattle.graph.proofs.Views.{else-first, else-next, numbers, opened-l
 module _ (z : ℕ) (c l : List ℕ) (g : ℕ) where
   -- ── the ways through it ──
 
-  nowhere : (q : Refusal) → q ≡ asked z c l g → 0 < q .number → Nowhere q ≡ located z c l g
+  nowhere : {q : Refusal} → q ≡ asked z c l g → 0 < q .number → Nowhere q ≡ located z c l g
   unfolding located pickLocated
-  nowhere q e h = rw (lt-ltb 0 (asked z c l g .number) (omega (arith, numbers e))) (ap Nowhere e)
+  nowhere e h = rw (lt-ltb 0 (asked z c l g .number) (omega (arith, numbers e))) (ap Nowhere e)
 
   -- r is what a look at the chain gave
-  module _ (r : Survey) (v : Viewed z c l g r) where
+  module _ {r : Survey} (v : Viewed z c l g r) where
     pub locate-refused : 0 < r .refusal .number → Nowhere (r .refusal) ≡ located z c l g
     unfolding asked
-    locate-refused h = nowhere (r .refusal) (v .refusal ∙ sym (else-first (opened z c l) _ (omega (arith, numbers (v .refusal))))) h
+    locate-refused h = nowhere (v .refusal ∙ sym (else-first (opened z c l) _ (omega (arith, numbers (v .refusal))))) h
 
     module _ (h : r .refusal .number ≤ 0) where
       none : r .refusal .number ≡ 0
@@ -47,12 +47,12 @@ module _ (z : ℕ) (c l : List ℕ) (g : ℕ) where
       unfolding asked
       next = else-next (opened z c l) _ (omega (arith, numbers (v .refusal)))
 
-      pub locate-out : r .mark .found ≡ false → (q : Refusal) → q ≡ refusal 40 0 → Nowhere q ≡ located z c l g
+      pub locate-out : r .mark .found ≡ false → {q : Refusal} → q ≡ refusal 40 0 → Nowhere q ≡ located z c l g
       unfolding pickRefusal
-      locate-out f q e =
+      locate-out f {q} e =
           let b : commitsIn z c l ≤ g = v .kept none .outside f in
           let y : q .number ≡ 40 = numbers e in
-          nowhere q (e ∙ sym (next ∙ rw (le-leb (commitsIn z c l) g b))) (omega arith)
+          nowhere (e ∙ sym (next ∙ rw (le-leb (commitsIn z c l) g b))) (omega arith)
 
       pub locate-found : r .mark .found ≡ true → At (r .mark .spot) ≡ located z c l g
       unfolding pickRefusal located pickLocated spotIn
@@ -70,9 +70,10 @@ module _ (z : ℕ) (c l : List ℕ) (g : ℕ) where
   spot-of : ℕ → ℕ → File → Spot
   spot-of k i f = record { file = k; start = startAt z c l k; size = lengthAt z l k; pos = record { 0 = i }; inner = f }
 
-  fine-spot : asked z c l g .number ≡ 0 → (f : File) → openAt z c l (fileOf z c l g) ≡ Open f → posOf z c l g < f .commits → Spotted z c l g (spot-of (fileOf z c l g) (posOf z c l g) f)
+  fine-spot : asked z c l g .number ≡ 0 → {f : File} → openAt z c l (fileOf z c l g) ≡ Open f → posOf z c l g < f .commits
+      → Spotted z c l g (spot-of (fileOf z c l g) (posOf z c l g) f)
   unfolding spot-of
-  fine-spot a f o h =
+  fine-spot a o h =
       let b : g < commitsIn z c l = asked-below z c l g a in
       record {
         fine = a;
@@ -82,18 +83,20 @@ module _ (z : ℕ) (c l : List ℕ) (g : ℕ) where
         below = stands z c l .file g b;
         start = refl;
         size = refl;
-        room = file-room z c l (recordsOf z l) (opened-listed z c l (asked-opened z c l g a)) (fileOf z c l g) (stands z c l .file g b);
+        room = file-room z c l (opened-listed z c l (asked-opened z c l g a)) (fileOf z c l g) (stands z c l .file g b);
         opens = o;
         high = h;
       }
 
   -- an answered spot is the position's, and a refusal is the question's
-  pub spotted : (r : Spot) → located z c l g ≡ At r → Spotted z c l g r
+  pub spotted : {r : Spot} → located z c l g ≡ At r → Spotted z c l g r
   unfolding located pickLocated spotIn spot-of
-  spotted r = go (ltb 0 (asked z c l g .number)) refl
+  spotted {r} = go _ refl
     where
       go : (t : Bool) → ltb 0 (asked z c l g .number) ≡ t
-          → pickLocated t (Nowhere (asked z c l g)) (spotIn (fileOf z c l g) (startAt z c l (fileOf z c l g)) (lengthAt z l (fileOf z c l g)) (posOf z c l g) (openAt z c l (fileOf z c l g))) ≡ At r
+          → pickLocated t (Nowhere (asked z c l g))
+          (spotIn (fileOf z c l g) (startAt z c l (fileOf z c l g)) (lengthAt z l (fileOf z c l g)) (posOf z c l g)
+          (openAt z c l (fileOf z c l g))) ≡ At r
           → Spotted z c l g r
       go true e d = let y : _≡_ {A = ℕ} 0 1 = cc in absurd (omega arith)
       go false e d =
@@ -101,14 +104,16 @@ module _ (z : ℕ) (c l : List ℕ) (g : ℕ) where
           let o = stands z c l .opens g (asked-below z c l g a) in
           let x : At (spot-of (fileOf z c l g) (posOf z c l g) (o .0)) ≡ At r = rw (o .1) at d in
           let y : spot-of (fileOf z c l g) (posOf z c l g) (o .0) ≡ r = cc in
-          subst (Spotted z c l g) y (fine-spot a (o .0) (o .1) (o .2))
+          subst (Spotted z c l g) y (fine-spot a (o .1) (o .2))
 
-  pub unspotted : (q : Refusal) → located z c l g ≡ Nowhere q → (q ≡ asked z c l g) × (0 < q .number)
+  pub unspotted : {q : Refusal} → located z c l g ≡ Nowhere q → (q ≡ asked z c l g) × (0 < q .number)
   unfolding located pickLocated spotIn
-  unspotted q = go (ltb 0 (asked z c l g .number)) refl
+  unspotted {q} = go _ refl
     where
       go : (t : Bool) → ltb 0 (asked z c l g .number) ≡ t
-          → pickLocated t (Nowhere (asked z c l g)) (spotIn (fileOf z c l g) (startAt z c l (fileOf z c l g)) (lengthAt z l (fileOf z c l g)) (posOf z c l g) (openAt z c l (fileOf z c l g))) ≡ Nowhere q
+          → pickLocated t (Nowhere (asked z c l g))
+          (spotIn (fileOf z c l g) (startAt z c l (fileOf z c l g)) (lengthAt z l (fileOf z c l g)) (posOf z c l g)
+          (openAt z c l (fileOf z c l g))) ≡ Nowhere q
           → (q ≡ asked z c l g) × (0 < q .number)
       go true e d =
           let y : q ≡ asked z c l g = cc in
@@ -116,12 +121,15 @@ module _ (z : ℕ) (c l : List ℕ) (g : ℕ) where
       go false e d =
           let a : asked z c l g .number ≡ 0 = omega (arith, ltb-false 0 (asked z c l g .number) e) in
           let o = stands z c l .opens g (asked-below z c l g a) in
-          let x : spotIn (fileOf z c l g) (startAt z c l (fileOf z c l g)) (lengthAt z l (fileOf z c l g)) (posOf z c l g) (Open (o .0)) ≡ Nowhere q = rw (o .1) at d in
-          let y : _≡_ {A = ℕ} 0 1 = cc in absurd (omega arith)
+          let x : spotIn (fileOf z c l g) (startAt z c l (fileOf z c l g)) (lengthAt z l (fileOf z c l g)) (posOf z c l g) (Open (o .0)) ≡ Nowhere q =
+          rw (o .1) at d in
+          let y : _≡_ {A = ℕ} 0 1 = cc in
+          absurd (omega arith)
 
 -- what is cut from the chain by a spot is its file
-pub file-cut : (z : ℕ) (c : RefT (List ℕ)) (l : List ℕ) (g : ℕ) (r : Spot) → Spotted z (c .now) l g r → {s : RefT (List ℕ)} → RecordsOf c (r .start) (r .size) 1 s → FileOf z c l r s
+pub file-cut : {z : ℕ} (c : RefT (List ℕ)) {l : List ℕ} {g : ℕ} {r : Spot} → Spotted z (c .now) l g r → {s : RefT (List ℕ)}
+    → RecordsOf c (r .start) (r .size) 1 s → FileOf z c l r s
 unfolding partAt
-file-cut z c l g r h {s} p =
+file-cut c {r} h {s} p =
     let q = run-in c s (r .start) (r .size) (h .room) p in
     record { bytes = q .bytes ∙ rw (← h .start, ← h .size); place = q }

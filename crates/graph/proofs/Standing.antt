@@ -25,7 +25,7 @@ has-open (Refused r) i h = let z : ⊥ = omega arith in absurd z
 module _ (z : ℕ) (c l : List ℕ) where
   position-open : (g : ℕ) → g < commitsIn z c l → (f : File) × (openAt z c l (fileOf z c l g) ≡ Open f) × (posOf z c l g < f .commits)
   unfolding countAt
-  position-open g h = has-open (openAt z c l (fileOf z c l g)) (posOf z c l g) (within-below (countAt z c l) (recordsOf z l) g h)
+  position-open g h = has-open _ (posOf z c l g) (within-below (countAt z c l) (recordsOf z l) g h)
 
   pub stands : Stands z c l
   stands =
@@ -38,19 +38,21 @@ module _ (z : ℕ) (c l : List ℕ) where
         fileBack = which-back (countAt z c l) (recordsOf z l);
         posBack = within-back (countAt z c l) (recordsOf z l);
         only = λ k i m j b h d g e. (
-          sym (which-back (countAt z c l) (recordsOf z l) k i b h) ∙ ap (fileOf z c l) e ∙ which-back (countAt z c l) (recordsOf z l) m j d g,
-          sym (within-back (countAt z c l) (recordsOf z l) k i b h) ∙ ap (posOf z c l) e ∙ within-back (countAt z c l) (recordsOf z l) m j d g,
+          sym (which-back (countAt z c l) (recordsOf z l) k i b h) ∙ ap (fileOf z c l) e
+              ∙ which-back (countAt z c l) (recordsOf z l) m j d g,
+          sym (within-back (countAt z c l) (recordsOf z l) k i b h) ∙ ap (posOf z c l) e
+              ∙ within-back (countAt z c l) (recordsOf z l) m j d g,
         );
       }
 
   -- a position that is not refused: the chain opens, and it is one of the chain's
   pub asked-opened : (g : ℕ) → asked z c l g .number ≡ 0 → opened z c l .number ≡ 0
   unfolding asked
-  asked-opened g e = else-none (opened z c l) (pickRefusal (leb (commitsIn z c l) g) (refusal 40 0) (opened z c l)) e .0
+  asked-opened g e = else-none (opened z c l) _ e .0
 
   pub asked-below : (g : ℕ) → asked z c l g .number ≡ 0 → g < commitsIn z c l
   unfolding asked pickRefusal
-  asked-below g e = go (leb (commitsIn z c l) g) refl (else-none (opened z c l) (pickRefusal (leb (commitsIn z c l) g) (refusal 40 0) (opened z c l)) e .1)
+  asked-below g e = go _ refl (else-none (opened z c l) (pickRefusal (leb (commitsIn z c l) g) (refusal 40 0) (opened z c l)) e .1)
     where
       go : (t : Bool) → leb (commitsIn z c l) g ≡ t → pickRefusal t (refusal 40 0) (opened z c l) .number ≡ 0 → g < commitsIn z c l
       go true q d = absurd (omega arith)

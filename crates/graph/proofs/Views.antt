@@ -39,16 +39,16 @@ numbers e = ap (λ (r : Refusal). r .number) e
 
 module _ (z : ℕ) (c l : List ℕ) where
   -- what was opened: m is what the list's check said, q the pass's refusal
-  pub opened-list : (m : Refusal) → m ≡ refusal (listRule z (length c) l) (listPlace z (length c) l) → 0 < m .number → m ≡ opened z c l
+  pub opened-list : {m : Refusal} → m ≡ refusal (listRule z (length c) l) (listPlace z (length c) l) → 0 < m .number → m ≡ opened z c l
   unfolding opened
-  opened-list m e h = sym (rw (← e) (else-first m _ h))
+  opened-list {m} e h = sym (rw (← e) (else-first m _ h))
 
-  pub opened-pass : (m q : Refusal) → m ≡ refusal (listRule z (length c) l) (listPlace z (length c) l) → m .number ≤ 0
+  pub opened-pass : {m q : Refusal} → m ≡ refusal (listRule z (length c) l) (listPlace z (length c) l) → m .number ≤ 0
       → q ≡ openFrom z c l 0 (recordsOf z l) → q ≡ opened z c l
   unfolding opened
-  opened-pass m q e h d = d ∙ sym (rw (← e) (else-next m _ (omega arith)))
+  opened-pass {m} e h d = d ∙ sym (rw (← e) (else-next m _ (omega arith)))
 
-  module _ (m : Refusal) (e : m ≡ refusal (listRule z (length c) l) (listPlace z (length c) l)) where
+  module _ {m : Refusal} (e : m ≡ refusal (listRule z (length c) l) (listPlace z (length c) l)) where
     pub list-listed : m .number ≤ 0 → Listed z c l (recordsOf z l)
     list-listed h =
         let y : listRule z (length c) l ≡ 0 = omega (arith, numbers e) in
@@ -58,15 +58,15 @@ module _ (z : ℕ) (c l : List ℕ) where
     pub view-refused : (g : ℕ) (s : Mark) → 0 < m .number → Viewed z c l g (record { refusal = m; commits = 0; mark = s })
     view-refused g s h =
         record {
-          refusal = opened-list m e h;
+          refusal = opened-list e h;
           commits = λ y. absurd (omega arith);
           kept = λ y. absurd (omega arith);
         }
 
-    pub view-passed : (g n : ℕ) (r : Survey) → m .number ≤ 0 → n ≡ recordsOf z l → Surveyed z c l n g r → Viewed z c l g r
-    view-passed g n r h q s =
+    pub view-passed : {g n : ℕ} {r : Survey} → m .number ≤ 0 → n ≡ recordsOf z l → Surveyed z c l n g r → Viewed z c l g r
+    view-passed {r} h q s =
         record {
-          refusal = opened-pass m (r .refusal) e h (s .refusal ∙ ap (openFrom z c l 0) q);
+          refusal = opened-pass e h (s .refusal ∙ ap (openFrom z c l 0) q);
           commits = λ y. s .commits y ∙ ap (before (countAt z c l)) q;
           kept = λ y. rw q at (s .kept y);
         }
@@ -75,12 +75,12 @@ module _ (z : ℕ) (c l : List ℕ) where
   module _ (y : opened z c l .number ≡ 0) where
     pub opened-halves : (listRule z (length c) l ≡ 0) × (openFrom z c l 0 (recordsOf z l) .number ≡ 0)
     unfolding opened
-    opened-halves = else-none (refusal (listRule z (length c) l) (listPlace z (length c) l)) (openFrom z c l 0 (recordsOf z l)) y
+    opened-halves = else-none _ _ y
 
     pub opened-listed : Listed z c l (recordsOf z l)
-    opened-listed = list-listed (refusal (listRule z (length c) l) (listPlace z (length c) l)) refl (omega (arith, opened-halves .0))
+    opened-listed = list-listed refl (omega (arith, opened-halves .0))
 
-  module _ (g : ℕ) (r : Survey) (v : Viewed z c l g r) where
+  module _ {g : ℕ} {r : Survey} (v : Viewed z c l g r) where
     pub opening-refused : 0 < r .refusal .number → Not (r .refusal) ≡ openingOf z c l
     unfolding openingOf pickOpening
     opening-refused h = rw (lt-ltb 0 (opened z c l .number) (omega (arith, numbers (v .refusal)))) (ap Not (v .refusal))

@@ -33,7 +33,7 @@ module _ (b : List ℕ) (n : ℕ) (e : length b ≡ 64) where
       let d : List ℕ = opened b n ++ a in
       let l : length d ≡ n % 64 + length a = length-append (opened b n) a ∙ ap (λ (k : ℕ). k + length a) length-opened in
       let m : length (rest d) ≡ (n + length a) % 2 ^ 64 % 64 = omega (arith, length-rest d) in
-      take-in-opened (rest d) (replicate (64 - length (rest d)) 0) ((n + length a) % 2 ^ 64) m
+      take-in-opened (rest d) _ _ m
 
   -- two pieces are one
   module _ (a c : List ℕ) where
@@ -104,15 +104,16 @@ module _ (w out : List ℕ) (i : ℕ) (h : i < length w) (g : 4 * length w ≤ l
   word-in =
       let x : ℕ = getD w i 0 in
       let p : List ℕ = take (4 * i) out ++ bytesOf 4 x in
-      let n : length p ≡ 4 * (i + 1) = length-append (take (4 * i) out) (bytesOf 4 x) ∙ ap₂ _+_ (length-take-le (4 * i) out (omega arith)) (length-bytes 4 x) ∙ omega arith in
+      let n : length p ≡ 4 * (i + 1) = length-append (take (4 * i) out) (bytesOf 4 x)
+      ∙ ap₂ _+_ (length-take-le (4 * i) out (omega arith)) (length-bytes 4 x) ∙ omega arith in
       let f : 4 * i + length (bytesOf 4 x) ≤ length out = rw (length-bytes 4 x) (omega arith) in
-      ap (take (4 * (i + 1))) (sets-eq (bytesOf 4 x) out (4 * i) f)
-      ∙ take-at p _ (4 * (i + 1)) n
-      ∙ ap₂ _++_ e (sym (append-nil (bytesOf 4 x)))
-      ∙ sym (bytes-append (take i w) (x ∷ []))
+      ap (take (4 * (i + 1))) (sets-eq (bytesOf 4 x) out (4 * i) f) ∙ take-at p _ (4 * (i + 1)) n
+      ∙ ap₂ _++_ e (sym (append-nil (bytesOf 4 x))) ∙ sym (bytes-append (take i w) (x ∷ []))
       ∙ ap bytes (sym (take-suc w i 0 h) ∙ ap (λ (k : ℕ). take k w) (sym (add-one i)))
 
-  pub word-stored : take (4 * (i + 1)) (set (set (set (set out (4 * i) (getD w i 0 / 0x1000000 % 256)) (4 * i + 1) (getD w i 0 / 0x10000 % 256)) (4 * i + 2) (getD w i 0 / 0x100 % 256)) (4 * i + 3) (getD w i 0 % 256)) ≡ bytes (take (i + 1) w)
+  pub word-stored : take (4 * (i + 1))
+      (set (set (set (set out (4 * i) (getD w i 0 / 0x1000000 % 256)) (4 * i + 1) (getD w i 0 / 0x10000 % 256)) (4 * i + 2)
+      (getD w i 0 / 0x100 % 256)) (4 * i + 3) (getD w i 0 % 256)) ≡ bytes (take (i + 1) w)
   unfolding bytesOf
   word-stored =
       let a : 4 * i + 1 ≡ suc (4 * i) = omega arith in

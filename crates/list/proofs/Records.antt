@@ -24,16 +24,17 @@ pub square : (k z : ℕ) → k < 4294967296 → z < 4294967296 → k * z ≤ 184
 square k z h g = mul-le-mul {n₁ = k} {m₁ = z} {n₂ = 4294967295} {m₂ = 4294967295} (omega arith) (omega arith)
 
 -- the hash bytes of a record as a number
-pub claim-number : (s r : RefT (List ℕ)) (z k : ℕ) → k * z + 28 ≤ length (s .now) → RecordsOf s (k * z + 8) 20 1 r → number (r .now) ≡ claimAt z (s .now) k
+pub claim-number : (s r : RefT (List ℕ)) (z k : ℕ) → k * z + 28 ≤ length (s .now) → RecordsOf s (k * z + 8) 20 1 r
+    → number (r .now) ≡ claimAt z (s .now) k
 claim-number s r z k h p = part-number (run-in s r (k * z + 8) 20 (omega arith) p) (omega arith)
 
 -- the ways through a record's table: a is its kind, s whether it has stray hash bytes, b its spare bytes
-module _ (z : ℕ) (l : List ℕ) (k a : ℕ) (p : a ≡ kindAt z l k) where
+module _ (z : ℕ) (l : List ℕ) (k : ℕ) {a : ℕ} (p : a ≡ kindAt z l k) where
   pub record-kind : 2 < a → 31 ≡ recordRule z l k
   unfolding recordRule
   record-kind h = hit 31 _ _ (lt-ltb 2 (kindAt z l k) (omega arith))
 
-  module _ (h : a ≤ 2) (s : Bool) (q : s ≡ ((not (eqb (kindAt z l k) 1)) && (not (eqb (claimAt z l k) 0)))) where
+  module _ (h : a ≤ 2) {s : Bool} (q : s ≡ ((not (eqb (kindAt z l k) 1)) && (not (eqb (claimAt z l k) 0)))) where
     low : ltb 2 (kindAt z l k) ≡ false
     low = le-ltb 2 (kindAt z l k) (omega arith)
 
@@ -41,7 +42,7 @@ module _ (z : ℕ) (l : List ℕ) (k a : ℕ) (p : a ≡ kindAt z l k) where
     unfolding recordRule
     record-stray e = miss 31 _ _ 31 low (hit 31 _ _ (sym q ∙ e))
 
-    module _ (e : s ≡ false) (b : ℕ) (r : b ≡ spareAt z l k) where
+    module _ (e : s ≡ false) {b : ℕ} (r : b ≡ spareAt z l k) where
       pub record-spare : 0 < b → 31 ≡ recordRule z l k
       unfolding recordRule
       record-spare g = miss 31 _ _ 31 low (miss 31 _ _ 31 (sym q ∙ e) (hit 31 _ 0 (lt-ltb 0 (spareAt z l k) (omega arith))))
@@ -65,9 +66,9 @@ pub record-room : (k n z m : ℕ) → k < n → 32 ≤ z → n * z ≤ m → k *
 record-room k n z m h g e = let q : suc k * z ≤ n * z = mul-le-mul-right z h in omega (arith, suc-mul k z)
 
 -- what a size that is not refused gives
-pub few : (z n : ℕ) (l : List ℕ) (m : ℕ) → m ≡ sizeRule z n l → m ≤ 0 → recordsOf z l ≤ 256
+pub few : (z n : ℕ) (l : List ℕ) {m : ℕ} → m ≡ sizeRule z n l → m ≤ 0 → recordsOf z l ≤ 256
 unfolding sizeRule
-few z n l m e h =
+few z n l e h =
     let y : sizeRule z n l ≡ 0 = omega arith in
     let p1 = pass 1 _ _ (lit< tt) y in
     let p2 = pass 30 _ _ (lit< tt) (p1 .1) in
@@ -75,9 +76,9 @@ few z n l m e h =
     let p4 = pass 30 _ _ (lit< tt) (p3 .1) in
     ltb-false 256 (recordsOf z l) (p4 .0)
 
-pub small : (z n : ℕ) (l : List ℕ) (m : ℕ) → m ≡ sizeRule z n l → m ≤ 0 → n ≤ 1073741824
+pub small : (z n : ℕ) (l : List ℕ) {m : ℕ} → m ≡ sizeRule z n l → m ≤ 0 → n ≤ 1073741824
 unfolding sizeRule
-small z n l m e h =
+small z n l e h =
     let y : sizeRule z n l ≡ 0 = omega arith in
     ltb-false 1073741824 n (pass 1 _ _ (lit< tt) y .0)
 
@@ -92,35 +93,35 @@ unfolding sizeRule
 size-low z n l = row-low _ _ _ (lit< tt) (row-low _ _ _ (lit< tt) (row-low _ _ _ (lit< tt) (row-low _ _ _ (lit< tt) (lit< tt))))
 
 -- the ways through the list's table: m is what the size's rule said
-module _ (z n : ℕ) (l : List ℕ) (m : ℕ) (e : m ≡ sizeRule z n l) where
-  place-zero : (r : ℕ) → r ≡ listRule z n l → (r ≡ 31 → ⊥) → 0 ≡ listPlace z n l
+module _ (z n : ℕ) (l : List ℕ) {m : ℕ} (e : m ≡ sizeRule z n l) where
+  place-zero : {r : ℕ} → r ≡ listRule z n l → (r ≡ 31 → ⊥) → 0 ≡ listPlace z n l
   unfolding listPlace
-  place-zero r p q = miss (badRecord z l) _ 0 0 (ne-eqb (listRule z n l) 31 (λ d. q (p ∙ d))) refl
+  place-zero p q = miss (badRecord z l) _ 0 0 (ne-eqb (listRule z n l) 31 (λ d. q (p ∙ d))) refl
 
   rule-size : 0 < m → m ≡ listRule z n l
   unfolding listRule
   rule-size h = e ∙ hit (sizeRule z n l) _ _ (lt-ltb 0 (sizeRule z n l) (omega arith))
 
   pub list-size : 0 < m → refusal m 0 ≡ refusal (listRule z n l) (listPlace z n l)
-  list-size h = ap₂ refusal (rule-size h) (place-zero m (rule-size h) (λ d. omega (arith, size-low z n l)))
+  list-size h = ap₂ refusal (rule-size h) (place-zero (rule-size h) (λ d. omega (arith, size-low z n l)))
 
-  module _ (h : m ≤ 0) (c k : ℕ) (p : c ≡ recordsOf z l) (q : k ≡ first (flawed z l) 0 c) where
+  module _ (h : m ≤ 0) {c k : ℕ} (p : c ≡ recordsOf z l) (q : k ≡ first (flawed z l) 0 c) where
     at-record : badRecord z l ≡ k
     unfolding badRecord
     at-record = ap (first (flawed z l) 0) (sym p) ∙ sym q
 
-    past : (r rest : ℕ) → r ≡ rest → r ≡ (sizeRule z n l if ltb 0 (sizeRule z n l) else rest)
-    past r rest d = miss (sizeRule z n l) _ rest r (le-ltb 0 (sizeRule z n l) (omega arith)) d
+    past : {r rest : ℕ} → r ≡ rest → r ≡ (sizeRule z n l if ltb 0 (sizeRule z n l) else rest)
+    past {r} {rest} d = miss (sizeRule z n l) _ rest r (le-ltb 0 (sizeRule z n l) (omega arith)) d
 
     pub list-record : k < c → refusal 31 k ≡ refusal (listRule z n l) (listPlace z n l)
     unfolding listRule listPlace
     list-record g =
-        let y : 31 ≡ listRule z n l = past 31 _ (hit 31 _ _ (rw (at-record, ← p) (lt-ltb k c g))) in
+        let y : 31 ≡ listRule z n l = past (hit 31 _ _ (rw (at-record, ← p) (lt-ltb k c g))) in
         ap₂ refusal y (sym at-record ∙ hit (badRecord z l) _ 0 (eq-eqb (listRule z n l) 31 (sym y)))
 
-    module _ (g : c ≤ k) (t : ℕ) (d : t ≡ before (lengthAt z l) c) where
-      row-past : (r rest : ℕ) → r ≡ rest → r ≡ (31 if ltb (badRecord z l) (recordsOf z l) else rest)
-      row-past r rest y = miss 31 _ rest r (rw (at-record, ← p) (le-ltb k c g)) y
+    module _ (g : c ≤ k) {t : ℕ} (d : t ≡ before (lengthAt z l) c) where
+      row-past : {r rest : ℕ} → r ≡ rest → r ≡ (31 if ltb (badRecord z l) (recordsOf z l) else rest)
+      row-past {r} {rest} y = miss 31 _ rest r (rw (at-record, ← p) (le-ltb k c g)) y
 
       sum-is : t ≡ before (lengthAt z l) (recordsOf z l)
       sum-is = d ∙ ap (before (lengthAt z l)) p
@@ -128,26 +129,29 @@ module _ (z n : ℕ) (l : List ℕ) (m : ℕ) (e : m ≡ sizeRule z n l) where
       pub list-sum : (t ≡ n → ⊥) → refusal 32 0 ≡ refusal (listRule z n l) (listPlace z n l)
       unfolding listRule
       list-sum y =
-          let x : 32 ≡ listRule z n l = past 32 _ (row-past 32 _ (hit 32 _ 0 (ap not (ne-eqb _ _ (λ w. y (sum-is ∙ w)))))) in
-          ap₂ refusal x (place-zero 32 x (λ w. omega arith))
+          let x : 32 ≡ listRule z n l = past (row-past (hit 32 _ 0 (ap not (ne-eqb _ _ (λ w. y (sum-is ∙ w)))))) in
+          ap₂ refusal x (place-zero x (λ w. omega arith))
 
       pub list-fine : t ≡ n → refusal 0 0 ≡ refusal (listRule z n l) (listPlace z n l)
       unfolding listRule
       list-fine y =
-          let x : 0 ≡ listRule z n l = past 0 _ (row-past 0 _ (miss 32 _ 0 0 (ap not (eq-eqb _ _ (sym sum-is ∙ y))) refl)) in
-          ap₂ refusal x (place-zero 0 x (λ w. omega arith))
+          let x : 0 ≡ listRule z n l = past (row-past (miss 32 _ 0 0 (ap not (eq-eqb _ _ (sym sum-is ∙ y))) refl)) in
+          ap₂ refusal x (place-zero x (λ w. omega arith))
 
 -- what a list that is not refused gives: the chain's size, the number of records, and that the lengths add up
-pub list-sound : (z n : ℕ) (l : List ℕ) → listRule z n l ≡ 0 → (n ≤ 1073741824) × (recordsOf z l ≤ 256) × (before (lengthAt z l) (recordsOf z l) ≡ n)
+pub list-sound : (z n : ℕ) (l : List ℕ) → listRule z n l ≡ 0
+    → (n ≤ 1073741824) × (recordsOf z l ≤ 256) × (before (lengthAt z l) (recordsOf z l) ≡ n)
 unfolding listRule _if_else_
 list-sound z n l = go (ltb 0 (sizeRule z n l)) refl
   where
     go : (t : Bool) → ltb 0 (sizeRule z n l) ≡ t
-        → (sizeRule z n l if t else 31 if ltb (badRecord z l) (recordsOf z l) else 32 if not (eqb (before (lengthAt z l) (recordsOf z l)) n) else 0) ≡ 0
+        → (sizeRule z n l if t else 31 if ltb (badRecord z l) (recordsOf z l) else 32 if not (eqb (before (lengthAt z l) (recordsOf z l)) n)
+        else 0) ≡ 0
         → (n ≤ 1073741824) × (recordsOf z l ≤ 256) × (before (lengthAt z l) (recordsOf z l) ≡ n)
     go true d e = absurd (omega (arith, ltb-true 0 (sizeRule z n l) d))
     go false d e =
         let y : sizeRule z n l ≡ 0 = omega (arith, ltb-false 0 (sizeRule z n l) d) in
-        let p1 = pass 31 (ltb (badRecord z l) (recordsOf z l)) (32 if not (eqb (before (lengthAt z l) (recordsOf z l)) n) else 0) (lit< tt) e in
-        let p2 = pass 32 (not (eqb (before (lengthAt z l) (recordsOf z l)) n)) 0 (lit< tt) (p1 .1) in
-        (small z n l 0 (sym y) (omega arith), few z n l 0 (sym y) (omega arith), eqb-true _ _ (not-false _ (p2 .0)))
+        let p1 = pass 31 (ltb (badRecord z l) (recordsOf z l)) (32 if not (eqb (before (lengthAt z l) (recordsOf z l)) n) else 0) (lit< tt)
+        e in
+        let p2 = pass 32 _ 0 (lit< tt) (p1 .1) in
+        (small z n l (sym y) (omega arith), few z n l (sym y) (omega arith), eqb-true _ _ (not-false _ (p2 .0)))

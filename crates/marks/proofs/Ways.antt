@@ -35,8 +35,8 @@ use Rattle.marks.proofs.Reading.{step-word}
 -- ── a parent: x is what the step gave ──
 
 module _ (l : List ℕ) (f : File) (i : ℕ) (s : Phase) where
-  pub word-meets : (x : Step) → x ≡ stepOf l f i s → (q : Ancestor) → x .answer ≡ Parent q → Meets l f i s
-  word-meets x d q e = (q, sym (ap (λ (x : Step). x .answer) d) ∙ e)
+  pub word-meets : {x : Step} → x ≡ stepOf l f i s → {q : Ancestor} → x .answer ≡ Parent q → Meets l f i s
+  word-meets {x} d {q} e = (q, sym (ap (λ (x : Step). x .answer) d) ∙ e)
 
   word-reads : Bytes l → Read l f i s (wordOf l f i s)
   unfolding Read wordOf markBy
@@ -44,23 +44,28 @@ module _ (l : List ℕ) (f : File) (i : ℕ) (s : Phase) where
     where
       go : (v : Answer) → stepOf l f i s .answer ≡ v → markBy v (placeOf l f i s) 4 ≡ At p → Reads l f i s p
       go (Parent q) d e =
-          let w = step-word l f i s q y d .1 in
+          let w = step-word l f i s y d .1 in
           let z : run (placeOf l f i s) 4 ≡ p = cc in
-          subst (λ (p : Span). Reads l f i s p) z (record { four = refl; inside = w .inside; parent = d ∙ ap (λ (n : ℕ). Parent (record { position = record { 0 = n } })) (w .parent) })
+          subst (λ (p : Span). Reads l f i s p) z
+          (record {
+            four = refl;
+            inside = w .inside;
+            parent = d ∙ ap (λ (n : ℕ). Parent (record { position = record { 0 = n } })) (w .parent);
+          })
       go (No r) d e = let z : _≡_ {A = ℕ} 0 1 = cc in absurd (omega arith)
       go End d e = let z : _≡_ {A = ℕ} 0 1 = cc in absurd (omega arith)
 
-  pub word-both : Bytes l → (x : Step) → x ≡ stepOf l f i s → (v : Answer) → x .answer ≡ v → (r : Mark) → r ≡ markBy v (placeOf l f i s) 4
+  pub word-both : Bytes l → {x : Step} → x ≡ stepOf l f i s → {v : Answer} → x .answer ≡ v → {r : Mark} → r ≡ markBy v (placeOf l f i s) 4
       → (r ≡ wordOf l f i s) × Read l f i s r
   unfolding wordOf
-  word-both y x d v h r e =
+  word-both y {x} d {v} h {r} e =
       let a : v ≡ stepOf l f i s .answer = sym h ∙ ap (λ (x : Step). x .answer) d in
       let z : r ≡ wordOf l f i s = e ∙ ap (λ (v : Answer). markBy v (placeOf l f i s) 4) a in
       (z, subst (λ (m : Mark). Read l f i s m) (sym z) (word-reads y))
 
 -- ── a date, and an entry: m is what the question's rule said ──
 
-module _ (l : List ℕ) (f : File) (i m : ℕ) (d : m ≡ askRule l f (f .commits) i) where
+module _ (l : List ℕ) (f : File) (i : ℕ) {m : ℕ} (d : m ≡ askRule l f (f .commits) i) where
   pub date-out : 0 < m → Refused (refusal m 0) ≡ dateOf l f i
   unfolding dateOf refuseMark
   date-out h = rw (← d) (go m h)
@@ -79,17 +84,17 @@ refuse-some zero p rest h = absurd (omega arith)
 refuse-some (suc n) p rest h = refl
 
 module _ (l : List ℕ) (f : File) (i : ℕ) where
-  pub entry-out : (m : ℕ) → m ≡ askRule l f (f .commits) i → 0 < m → Met (refusal m 0) ≡ entryOf l f i
+  pub entry-out : {m : ℕ} → m ≡ askRule l f (f .commits) i → 0 < m → Met (refusal m 0) ≡ entryOf l f i
   unfolding entryOf
-  entry-out m d h = rw (← d) (refuse-some m 0 _ h)
+  entry-out {m} d h = rw (← d) (refuse-some m 0 _ h)
 
-  module _ (k : Answered l f (f .commits) i) (n : ℕ) (d : n ≡ entryIn (f .width) (fanPart l f) (idsPart l f) (rowsPart l f) i) where
+  module _ (k : Answered l f (f .commits) i) {n : ℕ} (d : n ≡ entryIn (f .width) (fanPart l f) (idsPart l f) (rowsPart l f) i) where
     plain : n ≡ entryRule (f .width) (fanPart l f) (idsPart l f) (rowsPart l f) i
     plain =
         d
         ∙ entry-plain (f .width) (fanPart l f) (idsPart l f) (rowsPart l f) i (eq-eqb _ _ (k .width))
         (rw (length-part (f .oidl) (f .commits * f .width) l (k .fits .ids)) (run-within i (f .commits) (f .width) (k .below)))
-        (rw (length-part (f .cdat) (f .commits * (f .width + 16)) l (k .fits .rows)) (run-within i (f .commits) (f .width + 16) (k .below)))
+        (rw (length-part (f .cdat) _ l (k .fits .rows)) (run-within i (f .commits) (f .width + 16) (k .below)))
 
     pub entry-bad : 0 < n → Met (refusal n i) ≡ entryOf l f i
     unfolding entryOf refuseAsking
@@ -100,10 +105,10 @@ module _ (l : List ℕ) (f : File) (i : ℕ) where
     entry-fine h = let z : entryRule (f .width) (fanPart l f) (idsPart l f) (rowsPart l f) i ≡ 0 = omega (arith, plain) in rw (k .rule, z)
 
 -- the entry's rule, asked of the parts that were cut out
-pub entry-cut : (s a b c : RefT (List ℕ)) (f : File) (i : ℕ) → Answered (s .now) f (f .commits) i
+pub entry-cut : (s a b c : RefT (List ℕ)) {f : File} {i : ℕ} → Answered (s .now) f (f .commits) i
     → RecordsOf s (f .oidf) 256 4 a → RecordsOf s (f .oidl) (f .commits) (f .width) b → RecordsOf s (f .cdat) (f .commits) (f .width + 16) c
     → entryIn (f .width) (a .now) (b .now) (c .now) i ≡ entryIn (f .width) (fanPart (s .now) f) (idsPart (s .now) f) (rowsPart (s .now) f) i
-entry-cut s a b c f i k p q r =
+entry-cut s a b c {f} k p q r =
     rw (
       records-in s a (f .oidf) 256 4 (k .fits .fan) p .bytes,
       records-in s b (f .oidl) (f .commits) (f .width) (k .fits .ids) q .bytes,
@@ -122,7 +127,7 @@ module _ (l : List ℕ) where
     unfolding checkOf sizeRule _if_else_ refuseCheck
     check-small g = rw (le-ltb 1073741824 (length l) h, lt-ltb (length l) 1100 g)
 
-    module _ (g : 1100 ≤ length l) (n : ℕ) (d : n ≡ sumIn 20 l) where
+    module _ (g : 1100 ≤ length l) {n : ℕ} (d : n ≡ sumIn 20 l) where
       sized : sizeRule l ≡ 0
       unfolding sizeRule _if_else_
       sized = rw (le-ltb 1073741824 (length l) h, le-ltb (length l) 1100 g)

@@ -21,9 +21,9 @@ pub order-less : (a b : ℕ) → a < b → order a b ≡ Less
 unfolding order rank
 order-less a b h = rw (lt-ltb a b h)
 
-pub order-equal : (a b : ℕ) → a ≡ b → order a b ≡ Equal
+pub order-equal : {a b : ℕ} → a ≡ b → order a b ≡ Equal
 unfolding order rank
-order-equal a b h = let g : b ≤ a = omega arith in rw (le-ltb a b g, eq-eqb a b h)
+order-equal {a} {b} h = let g : b ≤ a = omega arith in rw (le-ltb a b g, eq-eqb a b h)
 
 pub order-greater : (a b : ℕ) → b < a → order a b ≡ Greater
 unfolding order rank
@@ -78,7 +78,7 @@ module _ (a b : List ℕ) (i j : ℕ) where
         (eq-or-lt-of-le (le-of-suc-le-suc h))
 
 -- x against the run of as many bytes at `at` of s, of which the first n lie in s: how it stands once k are known to be the same
-module _ (x s : List ℕ) (at n k : ℕ) (i : n ≡ min (length x) (length s - at)) (e : be k x 0 ≡ be k s at) where
+module _ (x s : List ℕ) (at : ℕ) {n : ℕ} (k : ℕ) (i : n ≡ min (length x) (length s - at)) (e : be k x 0 ≡ be k s at) where
   pub compare-less : Bytes x → Bytes s → k < n → getD x k 0 < getD s (at + k) 0 → Less ≡ order (number x) (be (length x) s at)
   compare-less bx bs h g = sym (order-less _ _ (less-at x s 0 at bx bs (length x) k (omega arith) e (rw zero-add g)))
 
@@ -108,12 +108,13 @@ module _ (x s : List ℕ) (at n k : ℕ) (i : n ≡ min (length x) (length s - a
 
     pub compare-equal : true ≡ eqb (number (take (length x - n) (drop n x))) 0 → Equal ≡ order (number x) (be (length x) s at)
     compare-equal t =
-        sym (order-equal _ _ (rw all at
+        sym (order-equal (rw all at
         (tail-equal x s 0 at n (length x - n) (rw h at e) nothing (sym rest ∙ eqb-true _ _ (sym t)))))
 
     pub compare-longer : false ≡ eqb (number (take (length x - n) (drop n x))) 0 → Greater ≡ order (number x) (be (length x) s at)
     compare-longer t =
-        let p : 0 < be (length x - n) x (0 + n) = ⊎-elim (λ z. absurd (eqb-false _ _ (sym t) (rest ∙ le-zero z))) (λ z. z) (le-or-lt (be (length x - n) x (0 + n)) 0) in
+        let p : 0 < be (length x - n) x (0 + n) = ⊎-elim (λ z. absurd (eqb-false _ _ (sym t) (rest ∙ le-zero z))) (λ z. z)
+        (le-or-lt (be (length x - n) x (0 + n)) 0) in
         sym (order-greater _ _ (rw all at (tail-greater x s 0 at n (length x - n) (rw h at e) nothing p)))
 
 -- what an order says of the numbers

@@ -17,7 +17,8 @@ use Rattle.parents.specs.declared.Total.{Total}
 use Rattle.parents.specs.declared.Total.the-variants.{Count as Whole, Refused as Short}
 
 -- one entry more
-over-set : (ps xs : List ℕ) (n p : ℕ) → n < length xs → take n xs ++ overlay (p ∷ ps) (drop n xs) ≡ take (suc n) (set xs n p) ++ overlay ps (drop (suc n) (set xs n p))
+over-set : (ps xs : List ℕ) (n p : ℕ) → n < length xs
+    → take n xs ++ overlay (p ∷ ps) (drop n xs) ≡ take (suc n) (set xs n p) ++ overlay ps (drop (suc n) (set xs n p))
 unfolding overlay
 over-set ps [] n p h = absurd (omega arith)
 over-set ps (x ∷ xs) zero p h = refl
@@ -37,7 +38,7 @@ module _ (xs : List ℕ) (w : Walked) where
   pub fill-begins : Filling (overlay (positions w) xs) w 0 xs
   fill-begins = record { few = omega arith; rest = refl }
 
-module _ (whole : List ℕ) (w : Walked) (n : ℕ) (out : List ℕ) (f : Filling whole w n out) where
+module _ {whole : List ℕ} {w : Walked} {n : ℕ} {out : List ℕ} (f : Filling whole w n out) where
   pub fill-next : (p : ℕ) (v : Walked) → w ≡ parent p v → n < length out → Filling whole v (n + 1) (set out n p)
   unfolding positions
   fill-next p v e h =
@@ -57,15 +58,16 @@ module _ (whole : List ℕ) (w : Walked) (n : ℕ) (out : List ℕ) (f : Filling
 
 -- the ways through the answer and through what the list holds: v is what the count said
 module _ (l : List ℕ) (f : File) (i : ℕ) (xs : List ℕ) where
-  pub list-short : (r : Refusal) → Short r ≡ totalOf l f i → (Short r ≡ listOf l f i (length xs)) × (xs ≡ heldOf l f i xs)
+  pub list-short : {r : Refusal} → Short r ≡ totalOf l f i → (Short r ≡ listOf l f i (length xs)) × (xs ≡ heldOf l f i xs)
   unfolding listOf heldOf heldBy fitTotal
-  list-short r e = (rw (← e), rw (← e))
+  list-short e = (rw (← e), rw (← e))
 
-  module _ (n : ℕ) (e : Whole n ≡ totalOf l f i) where
+  module _ {n : ℕ} (e : Whole n ≡ totalOf l f i) where
     pub list-full : length xs < n → (Short (refusal 55 i) ≡ listOf l f i (length xs)) × (xs ≡ heldOf l f i xs)
     unfolding listOf heldOf heldBy fitTotal pickTotal
     list-full h = (rw (← e, lt-ltb (length xs) n h), rw (← e, lt-ltb (length xs) n h))
 
-    pub list-whole : n ≤ length xs → (out : List ℕ) → out ≡ overlay (positions (walkOf l f i)) xs → (Whole n ≡ listOf l f i (length xs)) × (out ≡ heldOf l f i xs)
+    pub list-whole : n ≤ length xs → {out : List ℕ} → out ≡ overlay (positions (walkOf l f i)) xs
+        → (Whole n ≡ listOf l f i (length xs)) × (out ≡ heldOf l f i xs)
     unfolding listOf heldOf heldBy fitTotal pickTotal
-    list-whole h out d = (rw (← e, le-ltb (length xs) n h), d ∙ rw (← e, le-ltb (length xs) n h))
+    list-whole h d = (rw (← e, le-ltb (length xs) n h), d ∙ rw (← e, le-ltb (length xs) n h))

@@ -62,7 +62,9 @@ step-told l f i s = go (askRule l f (f .commits) i)
     x = nextOf (rowOf l f i .first) (rowOf l f i .second) (not (absent (f .edge))) (edgePart l f) s
 
     go : (m : ℕ) → Told (refuseStep m (stepBy i x) .answer) (refuseStep m (stepBy i x) .next)
-    go zero = met-told (edgePart l f) i _ (x .met) (x .phase) (next-fair (not (absent (f .edge))) (edgePart l f) (rowOf l f i .first) (rowOf l f i .second) s)
+    go zero =
+        met-told (edgePart l f) i _ (x .met) (x .phase)
+        (next-fair (not (absent (f .edge))) (edgePart l f) (rowOf l f i .first) (rowOf l f i .second) s)
     go (suc m) = (omega arith, refl)
 
 -- the number of its parents
@@ -72,11 +74,13 @@ refuse-total zero rest h = absurd (omega arith)
 refuse-total (suc m) rest h = refl
 
 module _ (l : List ℕ) (f : File) (i : ℕ) where
-  pub total-misfit : (r : Refusal) → (0 < askRule l f (f .commits) i) × (r ≡ refusal (askRule l f (f .commits) i) 0) → Short r ≡ totalOf l f i
+  pub total-misfit : (r : Refusal) → (0 < askRule l f (f .commits) i) × (r ≡ refusal (askRule l f (f .commits) i) 0)
+      → Short r ≡ totalOf l f i
   unfolding totalOf
   total-misfit r k = rw (k .1) (refuse-total _ _ (k .0))
 
   pub total-plain : askRule l f (f .commits) i ≡ 0
-      → (x v : Counted) → x ≡ countOf (rowOf l f i .first) (rowOf l f i .second) (not (absent (f .edge))) (edgePart l f) → x ≡ v → totalBy i v ≡ totalOf l f i
+      → {x v : Counted}
+      → x ≡ countOf (rowOf l f i .first) (rowOf l f i .second) (not (absent (f .edge))) (edgePart l f) → x ≡ v → totalBy i v ≡ totalOf l f i
   unfolding totalOf refuseTotal
-  total-plain e x v p q = rw e (ap (totalBy i) (sym q ∙ p))
+  total-plain e p q = rw e (ap (totalBy i) (sym q ∙ p))

@@ -25,7 +25,7 @@ use Rattle.flat.specs.Images.{flatPart}
 use Rattle.places.specs.Places.{Names}
 
 -- the ways through a question by its number m
-module _ (m rule at size : ℕ) (e : m ≡ rule) {x : Part} where
+module _ {m rule : ℕ} (at size : ℕ) (e : m ≡ rule) {x : Part} where
   pub part-refused : {r : Refusal} → x ≡ flatPart (Met r) 0 0 → r ≡ refusal m 0 → 0 < m → x ≡ flatPart (asking rule) at size
   part-refused p q h = p ∙ ap (λ (a : Asking). flatPart a at size) (ap Met q ∙ asking-some m h ∙ ap asking e)
 
@@ -33,10 +33,10 @@ module _ (m rule at size : ℕ) (e : m ≡ rule) {x : Part} where
   part-fine p h = p ∙ ap (λ (a : Asking). flatPart a at size) (asking-none m h ∙ ap asking e)
 
 -- row i of n rows that lie in the bytes l: where it starts and ends is a number
-pub row-fits : (l : List ℕ) (f : File) (n i m from row : ℕ) → m ≡ askRule l f n i → m ≤ 0
+pub row-fits : (l : List ℕ) (f : File) (n i : ℕ) {m : ℕ} (from row : ℕ) → m ≡ askRule l f n i → m ≤ 0
     → (Fitted l f → from + n * row ≤ length l) → from + (i * row + row) ≤ length l
-row-fits l f n i m from row e h g =
-    let k : Answered l f n i = answered l f n i m e h in
+row-fits l f n i {m} from row e h g =
+    let k : Answered l f n i = answered l f n i e h in
     omega (arith, run-within i n row (k .below), g (k .fits))
 
 -- the numbers of a question name the part that the library hands out for it
@@ -46,7 +46,7 @@ names s zero at size q p = p
 names s (suc m) at size q p = rw (ne-eqb (suc m) 0 (λ e. omega arith)) at p
 
 -- the ways through a question by its refusal m, whose number is 0 where there is none
-module _ (m a : Refusal) (at size : ℕ) (e : m ≡ a) {x : Part} where
+module _ {m a : Refusal} (at size : ℕ) (e : m ≡ a) {x : Part} where
   pub part-barred : x ≡ flatPart (Met m) 0 0 → 0 < m .number → x ≡ flatPart (askingBy a) at size
   unfolding askingBy pickAsking
   part-barred p h = p ∙ rw (← e, lt-ltb 0 (m .number) h)
@@ -60,6 +60,7 @@ pub names-by : (s : RefT (List ℕ)) (a : Refusal) (at size : ℕ) → Names s (
 unfolding askingBy pickAsking _if_else_
 names-by s a at size q p = go (ltb 0 (a .number)) refl
   where
-    go : (t : Bool) → ltb 0 (a .number) ≡ t → PartOf s (flatPart (pickAsking t (Met a) Fine) at size .at) (flatPart (pickAsking t (Met a) Fine) at size .size) q
+    go : (t : Bool) → ltb 0 (a .number) ≡ t
+        → PartOf s (flatPart (pickAsking t (Met a) Fine) at size .at) (flatPart (pickAsking t (Met a) Fine) at size .size) q
     go true d = rw (ne-eqb (a .number) 0 (λ e. omega (arith, ltb-true 0 (a .number) d))) at p
     go false d = rw (eq-eqb (a .number) 0 (omega (arith, ltb-false 0 (a .number) d))) at p

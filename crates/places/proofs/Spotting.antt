@@ -12,7 +12,6 @@ use Rattle.fit.specs.Fits.{Fitted}
 use Rattle.fit.proofs.Opens.{opened}
 use Rattle.fit.proofs.Fitting.{run-within}
 use Rattle.access.specs.declared.Asking.the-variants.{Fine, Refused as Met}
-use Rattle.list.specs.List.{recordsOf}
 use Rattle.graph.specs.Chain.{partAt, openAt}
 use Rattle.graph.specs.Spots.{located}
 use Rattle.graph.specs.Chain.{widthIn}
@@ -31,40 +30,43 @@ use Rattle.places.specs.Places.{chainId, chainTree}
 
 module _ (z : ℕ) (c : RefT (List ℕ)) (l : List ℕ) (g : ℕ) where
   -- a refused position has neither
-  module _ (q : Refusal) (e : located z (c .now) l g ≡ Nowhere q) where
+  module _ {q : Refusal} (e : located z (c .now) l g ≡ Nowhere q) where
     pub id-refused : {x : Part} → x ≡ flatPart (Met q) 0 0 → x ≡ chainId z (c .now) l g
-    id-refused p = p ∙ rw (← which-none z c l g q e)
+    id-refused p = p ∙ rw (← which-none z c l g e)
 
     pub tree-refused : {x : Part} → x ≡ flatPart (Met q) 0 0 → x ≡ chainTree z (c .now) l g
-    tree-refused p = p ∙ rw (← which-none z c l g q e)
+    tree-refused p = p ∙ rw (← which-none z c l g e)
 
   -- it stands at r
-  module _ (r : Spot) (e : located z (c .now) l g ≡ At r) where
+  module _ {r : Spot} (e : located z (c .now) l g ≡ At r) where
     spot : Spotted z (c .now) l g r
-    spot = spotted z (c .now) l g r e
+    spot = spotted z (c .now) l g e
 
-    pub id-stands : {x : Part} → x ≡ flatPart Fine (r .start + (r .inner .oidl + r .pos .0 * (r .inner .width + 0))) (r .inner .width) → x ≡ chainId z (c .now) l g
+    pub id-stands : {x : Part} → x ≡ flatPart Fine (r .start + (r .inner .oidl + r .pos .0 * (r .inner .width + 0))) (r .inner .width)
+        → x ≡ chainId z (c .now) l g
     unfolding idIn widthIn
-    id-stands p = p ∙ rw (add-zero, ← which-fine z c l g r e, spot .file, spot .pos, spot .opens, spot .start)
+    id-stands p = p ∙ rw (add-zero, ← which-fine z c l g e, spot .file, spot .pos, spot .opens, spot .start)
 
-    pub tree-stands : {x : Part} → x ≡ flatPart Fine (r .start + (r .inner .cdat + r .pos .0 * (r .inner .width + 16))) (r .inner .width) → x ≡ chainTree z (c .now) l g
+    pub tree-stands : {x : Part} → x ≡ flatPart Fine (r .start + (r .inner .cdat + r .pos .0 * (r .inner .width + 16))) (r .inner .width)
+        → x ≡ chainTree z (c .now) l g
     unfolding treeIn widthIn
-    tree-stands p = p ∙ rw (← which-fine z c l g r e, spot .file, spot .pos, spot .opens, spot .start)
+    tree-stands p = p ∙ rw (← which-fine z c l g e, spot .file, spot .pos, spot .opens, spot .start)
 
 -- both lie in the chain
-module _ (z : ℕ) (c l : List ℕ) (g : ℕ) (r : Spot) (e : located z c l g ≡ At r) where
+module _ (z : ℕ) (c l : List ℕ) (g : ℕ) {r : Spot} (e : located z c l g ≡ At r) where
   here : Spotted z c l g r
-  here = spotted z c l g r e
+  here = spotted z c l g e
 
   long : length (partAt z c l (r .file)) ≡ r .size
-  long = part-long z c l (recordsOf z l) (opened-listed z c l (asked-opened z c l g (here .fine))) (r .file) (here .below) ∙ here .size
+  long = part-long z c l (opened-listed z c l (asked-opened z c l g (here .fine))) (r .file) (here .below) ∙ here .size
 
   fits : Fitted (partAt z c l (r .file)) (r .inner)
   unfolding openAt
-  fits = opened true (partAt z c l (r .file)) (r .inner) (here .opens) .fitted
+  fits = opened true (partAt z c l (r .file)) (here .opens) .fitted
 
   pub id-room : r .start + (r .inner .oidl + (r .pos .0 * (r .inner .width + 0) + (r .inner .width + 0))) ≤ length c
-  id-room = simp add-zero (omega (arith, fits .ids, run-within (r .pos .0) (r .inner .commits) (r .inner .width) (here .high), long, here .room))
+  id-room =
+      simp add-zero (omega (arith, fits .ids, run-within (r .pos .0) (r .inner .commits) (r .inner .width) (here .high), long, here .room))
 
   pub tree-room : r .start + (r .inner .cdat + (r .pos .0 * (r .inner .width + 16) + (r .inner .width + 16))) ≤ length c
   tree-room = omega (arith, fits .rows, run-within (r .pos .0) (r .inner .commits) (r .inner .width + 16) (here .high), long, here .room)

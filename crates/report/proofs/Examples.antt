@@ -8,12 +8,14 @@ use Rattle.audit.specs.declared.Verdict.the-variants.{Accepted, Refused}
 use Rattle.report.specs.Output.{ascii, others, line, lengthWord, keyWord, countLine, countLines, answerLines, readable, outputOf}
 
 -- a root, its child, and a merge of both
-merge : answerLines (Accepted (record { commits = 3; length = Steps 2 })) (1 ∷ 1 ∷ 1 ∷ replicate 63 0) ≡ ascii "accepted 3 2\nparents 0 1\nparents 1 1\nparents 2 1\n"
+merge : answerLines (Accepted (record { commits = 3; length = Steps 2 })) (1 ∷ 1 ∷ 1 ∷ replicate 63 0)
+    ≡ ascii "accepted 3 2\nparents 0 1\nparents 1 1\nparents 2 1\n"
 unfolding answerLines lengthWord countLines countLine keyWord line others pickList dec digits
 merge = refl
 
 -- no length, and the counts of keys 64 and 65
-cyclic : answerLines (Accepted (record { commits = 5; length = Cyclic })) (replicate 64 0 ++ (2 ∷ 3 ∷ [])) ≡ ascii "accepted 5 cyclic\nparents 64 2\nparents more 3\n"
+cyclic : answerLines (Accepted (record { commits = 5; length = Cyclic })) (replicate 64 0 ++ (2 ∷ 3 ∷ []))
+    ≡ ascii "accepted 5 cyclic\nparents 64 2\nparents more 3\n"
 unfolding answerLines lengthWord countLines countLine keyWord line others pickList dec digits
 cyclic = refl
 

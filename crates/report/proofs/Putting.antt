@@ -12,7 +12,8 @@ use Rattle.report.specs.Output.{countLine, countLines}
 use Rattle.report.specs.Puts.{Puts}
 
 -- what `put` and `number` of the crate text promise, where there is room
-pub puts : (k : ℕ) (out : List ℕ) (at : ℕ) (s : List ℕ) {o : List ℕ} {r : ℕ} → at + length s ≤ length out → length s ≤ k → r ≡ after (length out) at s → o ≡ written out at s → Puts k out at s o r
+pub puts : (k : ℕ) (out : List ℕ) (at : ℕ) (s : List ℕ) {o : List ℕ} {r : ℕ} → at + length s ≤ length out → length s ≤ k
+    → r ≡ after (length out) at s → o ≡ written out at s → Puts k out at s o r
 puts k out at s h few p q =
     let e = p ∙ after-put out at s h in
     record {
@@ -36,13 +37,16 @@ nothing out at h =
 
 infixr 10 _then_
 -- two texts, one behind the other
-pub _then_ : {j k : ℕ} {out : List ℕ} {at : ℕ} {s o : List ℕ} {r : ℕ} {t e : List ℕ} {n : ℕ} → Puts j out at s o r → Puts k o r t e n → Puts (j + k) out at (s ++ t) e n
+pub _then_ : {j k : ℕ} {out : List ℕ} {at : ℕ} {s o : List ℕ} {r : ℕ} {t e : List ℕ} {n : ℕ} → Puts j out at s o r → Puts k o r t e n
+    → Puts (j + k) out at (s ++ t) e n
 _then_ {out = out} {at = at} {s = s} {o = o} {r = r} {t = t} {n = n} a b =
-    let front : length (take at out ++ s) ≡ r = rw (length-append, length-take-le at out (omega (arith, a .place, a .room))) (sym (a .place)) in
+    let front : length (take at out ++ s) ≡ r = rw (length-append, length-take-le at out (omega (arith, a .place, a .room)))
+    (sym (a .place)) in
     let head : take r o ≡ take at out ++ s = ap (take r) (a .holds) ∙ take-at (take at out ++ s) (drop r out) r front in
-    let rest : drop n o ≡ drop n out =
-    ap (drop n) (a .holds) ∙ ap (λ (m : ℕ). drop m ((take at out ++ s) ++ drop r out)) (b .place ∙ ap (λ (m : ℕ). m + length t) (sym front))
-    ∙ drop-append-add (take at out ++ s) (drop r out) (length t) ∙ drop-drop (length t) r out ∙ ap (λ (m : ℕ). drop m out) (sym (b .place)) in
+    let rest : drop n o ≡ drop n out = ap (drop n) (a .holds)
+    ∙ ap (λ (m : ℕ). drop m ((take at out ++ s) ++ drop r out)) (b .place ∙ ap (λ (m : ℕ). m + length t) (sym front))
+    ∙ drop-append-add (take at out ++ s) (drop r out) (length t) ∙ drop-drop (length t) r out
+    ∙ ap (λ (m : ℕ). drop m out) (sym (b .place)) in
     record {
       few = simp length-append (omega (arith, a .few, b .few));
       place = simp length-append (omega (arith, a .place, b .place));
@@ -69,7 +73,7 @@ module _ (counts out : List ℕ) (at : ℕ) where
   unfolding countLines
   lines-none h = nothing out at h
 
-  pub lines-more : (k : ℕ) {o : List ℕ} {r : ℕ} {e : List ℕ} {n : ℕ} → Puts (50 * k) out at (countLines counts k) o r → Puts 50 o r (countLine k (getD counts k 0)) e n
-      → Puts (50 * (k + 1)) out at (countLines counts (k + 1)) e n
+  pub lines-more : (k : ℕ) {o : List ℕ} {r : ℕ} {e : List ℕ} {n : ℕ} → Puts (50 * k) out at (countLines counts k) o r
+      → Puts 50 o r (countLine k (getD counts k 0)) e n → Puts (50 * (k + 1)) out at (countLines counts (k + 1)) e n
   unfolding countLines
   lines-more k a b = rw (add-one k) (within (omega arith) (a then b))

@@ -41,23 +41,29 @@ module _ (input : List ℕ) where
       pub whole : 4 + sizeOf input ≤ length input → leb (length input - (4 + sizeOf input)) 49152 ≡ readable input
       unfolding readable
       whole f =
-          rw (le-leb 4 (length input) h, le-leb (sizeOf input) 12288 g, le-leb (4 + sizeOf input) (length input) f, length-drop (4 + sizeOf input) input)
+          rw (
+            le-leb 4 (length input) h,
+            le-leb (sizeOf input) 12288 g,
+            le-leb (4 + sizeOf input) (length input) f,
+            length-drop (4 + sizeOf input) input,
+          )
 
   -- what the code learns from a flag b that says whether the input is readable
   pub listed : {b : Bool} → b ≡ readable input → b ≡ true → 4 + sizeOf input ≤ length input
   unfolding readable
   listed p e =
       leb-true (4 + sizeOf input) (length input)
-      (third (leb 4 (length input)) (leb (sizeOf input) 12288) (leb (4 + sizeOf input) (length input)) (leb (length (chainOf input)) 49152) (sym p ∙ e))
+      (third (leb 4 (length input)) _ _ _ (sym p ∙ e))
 
   -- the parts that the code takes, n being the number that it read, are the list and the chain
-  pub taken : {v : Verification} (n : ℕ) → n ≡ sizeOf input
+  pub taken : {v : Verification} {n : ℕ} → n ≡ sizeOf input
       → v ≡ verification 32 (take (length input - (4 + n)) (drop (4 + n) input)) (take (4 + n - 4) (drop 4 input)) → v ≡ verified input
-  taken n e p =
+  taken {n} e p =
       let d : 4 + n - 4 ≡ n = omega arith in
       p ∙ rw (d, e, take-all (length input - (4 + sizeOf input)) (chainOf input) (simp length-drop (omega arith)))
 
-  pub output-read : {b : Bool} {v : Verification} → b ≡ readable input → b ≡ true → v ≡ verified input → outputOf input ≡ answerLines (v .verdict) (v .counts)
+  pub output-read : {b : Bool} {v : Verification} → b ≡ readable input → b ≡ true → v ≡ verified input
+      → outputOf input ≡ answerLines (v .verdict) (v .counts)
   unfolding outputOf pickList
   output-read p e q = rw (sym p, e, q)
 
@@ -67,7 +73,8 @@ module _ (input : List ℕ) where
 
   -- a text that stands at the start of the buffer is what the program prints
   pub printed : {k : ℕ} {out s o : List ℕ} {r : ℕ} → outputOf input ≡ s → Puts k out 0 s o r
-      → (r ≡ length (outputOf input)) × ((o ≡ outputOf input ++ drop (length (outputOf input)) out) × ((r ≤ length o) × (r ≡ length (take r o))))
+      → (r ≡ length (outputOf input))
+      × ((o ≡ outputOf input ++ drop (length (outputOf input)) out) × ((r ≤ length o) × (r ≡ length (take r o))))
   printed {o = o} {r = r} e a =
       let h : r ≤ length o = omega (arith, a .room, a .size) in
       rw e (start-size a, (start-holds a, (h, sym (length-take-le r o h))))

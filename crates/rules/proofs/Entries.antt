@@ -29,9 +29,9 @@ unfolding _or_
 or-hit zero b h = absurd (omega arith)
 or-hit (suc n) b h = refl
 
-pub or-miss : (a b : ℕ) → a ≡ 0 → (a or b) ≡ b
+pub or-miss : {a : ℕ} (b : ℕ) → a ≡ 0 → (a or b) ≡ b
 unfolding _or_
-or-miss a b e = rw e
+or-miss b e = rw e
 
 pub or-none : (a b : ℕ) → (a or b) ≡ 0 → (a ≡ 0) × (b ≡ 0)
 unfolding _or_
@@ -71,7 +71,8 @@ not-not false = refl
 
 -- ── the ways through the id's rule: r is the bytes of id c, t whether they are zero, u whether they are above those before ──
 
-module _ (s r : RefT (List ℕ)) (w c : ℕ) (h : c * w + w ≤ length (s .now)) (p : RecordsOf s (c * w) w 1 r) (t : Bool) (q : t ≡ eqb (number (r .now)) 0) where
+module _ (s r : RefT (List ℕ)) (w c : ℕ) (h : c * w + w ≤ length (s .now)) (p : RecordsOf s (c * w) w 1 r) {t : Bool}
+    (q : t ≡ eqb (number (r .now)) 0) where
   key-zero : t ≡ eqb (keyOf w (s .now) c) 0
   unfolding keyOf
   key-zero = zero-said s r (c * w) w h p q
@@ -84,7 +85,7 @@ module _ (s r : RefT (List ℕ)) (w c : ℕ) (h : c * w + w ≤ length (s .now))
   unfolding idRule
   id-first e g = miss 64 _ _ 0 (sym key-zero ∙ e) (miss 65 _ 0 0 (and-first _ _ (le-ltb 0 c g)) refl)
 
-  module _ (e : t ≡ false) (g : 0 < c) (u : Bool) (d : u ≡ not (leb (number (r .now)) (be (length (r .now)) (s .now) (c * w - w)))) where
+  module _ (e : t ≡ false) (g : 0 < c) {u : Bool} (d : u ≡ not (leb (number (r .now)) (be (length (r .now)) (s .now) (c * w - w)))) where
     key-order : not u ≡ leb (keyOf w (s .now) c) (keyOf w (s .now) (c - 1))
     unfolding keyOf
     key-order =
@@ -102,12 +103,12 @@ module _ (s r : RefT (List ℕ)) (w c : ℕ) (h : c * w + w ≤ length (s .now))
 
 -- ── the ways through the bucket's rule: t is whether c comes before the bucket, u the bucket's end ──
 
-module _ (fan : List ℕ) (b c : ℕ) (t : Bool) (q : t ≡ ltb c (lower fan b)) where
+module _ (fan : List ℕ) (b c : ℕ) {t : Bool} (q : t ≡ ltb c (lower fan b)) where
   pub bucket-early : t ≡ true → 66 ≡ bucketRule fan b c
   unfolding bucketRule
   bucket-early e = hit 66 _ _ (sym q ∙ e)
 
-  module _ (e : t ≡ false) (u : ℕ) (d : u ≡ upper fan b) where
+  module _ (e : t ≡ false) {u : ℕ} (d : u ≡ upper fan b) where
     pub bucket-late : u ≤ c → 66 ≡ bucketRule fan b c
     unfolding bucketRule
     bucket-late h = miss 66 _ _ 66 (sym q ∙ e) (hit 66 _ 0 (le-leb (upper fan b) c (omega arith)))
@@ -131,31 +132,36 @@ module _ (w : ℕ) (fan ids rows : List ℕ) (c : ℕ) where
     module _ (h : c * w + w ≤ length ids) where
       pub entry-rows : length rows < c * (w + 16) + (w + 16) → 40 ≡ entryIn w fan ids rows c
       unfolding entryIn
-      entry-rows g = miss 40 _ _ 40 (eq-not w 20 e) (miss 40 _ _ 40 (le-ltb (length ids) (c * w + w) h) (hit 40 _ _ (lt-ltb (length rows) (c * (w + 16) + (w + 16)) g)))
+      entry-rows g =
+          miss 40 _ _ 40 (eq-not w 20 e)
+          (miss 40 _ _ 40 (le-ltb (length ids) (c * w + w) h) (hit 40 _ _ (lt-ltb (length rows) (c * (w + 16) + (w + 16)) g)))
 
       module _ (g : c * (w + 16) + (w + 16) ≤ length rows) where
         entry-there : entryRule w fan ids rows c ≡ entryIn w fan ids rows c
         unfolding entryIn
-        entry-there = miss 40 _ _ _ (eq-not w 20 e) (miss 40 _ _ _ (le-ltb (length ids) (c * w + w) h) (miss 40 _ _ _ (le-ltb (length rows) (c * (w + 16) + (w + 16)) g) refl))
+        entry-there =
+            miss 40 _ _ _ (eq-not w 20 e)
+            (miss 40 _ _ _ (le-ltb (length ids) (c * w + w) h) (miss 40 _ _ _ (le-ltb (length rows) (c * (w + 16) + (w + 16)) g) refl))
 
-        module _ (m : ℕ) (p : m ≡ idRule w ids c) where
+        module _ {m : ℕ} (p : m ≡ idRule w ids c) where
           pub entry-id : 0 < m → m ≡ entryIn w fan ids rows c
           unfolding entryRule
           entry-id y = p ∙ or-hit _ _ (omega arith) ∙ entry-there
 
-          module _ (y : m ≤ 0) (b : ℕ) (q : b ≡ bucketRule fan (getD ids (c * w) 0) c) where
+          module _ (y : m ≤ 0) {b : ℕ} (q : b ≡ bucketRule fan (getD ids (c * w) 0) c) where
             past : bucketRule fan (getD ids (c * w) 0) c or treeRule w rows c ≡ entryIn w fan ids rows c
             unfolding entryRule
-            past = sym (or-miss _ _ (omega arith)) ∙ entry-there
+            past = sym (or-miss _ (omega arith)) ∙ entry-there
 
             pub entry-bucket : 0 < b → b ≡ entryIn w fan ids rows c
             entry-bucket x = q ∙ or-hit _ _ (omega arith) ∙ past
 
             pub entry-tree : b ≤ 0 → {t : ℕ} → t ≡ treeRule w rows c → t ≡ entryIn w fan ids rows c
-            entry-tree x d = d ∙ sym (or-miss _ _ (omega arith)) ∙ past
+            entry-tree x d = d ∙ sym (or-miss _ (omega arith)) ∙ past
 
   -- chunks that have entry c: the rules themselves
-  pub entry-plain : known w ≡ true → c * w + w ≤ length ids → c * (w + 16) + (w + 16) ≤ length rows → entryIn w fan ids rows c ≡ entryRule w fan ids rows c
+  pub entry-plain : known w ≡ true → c * w + w ≤ length ids → c * (w + 16) + (w + 16) ≤ length rows
+      → entryIn w fan ids rows c ≡ entryRule w fan ids rows c
   entry-plain k h g = sym (entry-there (eqb-true w 20 k) h g)
 
   -- ── what no refusal says, and what gives none ──
@@ -197,6 +203,8 @@ module _ (w : ℕ) (fan ids rows : List ℕ) (c : ℕ) where
   pub entry-whole : Entry w fan ids rows c → entryRule w fan ids rows c ≡ 0
   unfolding entryRule bucketRule treeRule
   entry-whole f =
-      or-miss _ _ (sym (id-whole f))
-      ∙ or-miss _ _ (sym (miss 66 _ _ 0 (le-ltb c (lower fan (getD ids (c * w) 0)) (f .low)) (miss 66 _ 0 0 (lt-leb (upper fan (getD ids (c * w) 0)) c (f .high)) refl)))
+      or-miss _ (sym (id-whole f))
+      ∙ or-miss _
+      (sym (miss 66 _ _ 0 (le-ltb c (lower fan (getD ids (c * w) 0)) (f .low))
+      (miss 66 _ 0 0 (lt-leb (upper fan (getD ids (c * w) 0)) c (f .high)) refl)))
       ∙ sym (miss 67 _ 0 0 (ne-eqb (be w rows (c * (w + 16))) 0 (f .tree)) refl)

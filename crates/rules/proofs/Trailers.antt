@@ -42,10 +42,10 @@ unfolding nameIn
 name-plain w z l k p e h = sym (trailer-there w p (nameRule w z l k p) (eqb-true w 20 e) h)
 
 -- 62: the trailer was compared with a digest d
-pub sum-said : (w : ℕ) (p d : List ℕ) {t : Bool} → length d ≡ w → d ≡ sha1Of (take (length p - w) p)
+pub sum-said : {w : ℕ} (p : List ℕ) {d : List ℕ} {t : Bool} → length d ≡ w → d ≡ sha1Of (take (length p - w) p)
     → t ≡ eqb (number d) (be (length d) p (length p - w))
     → t ≡ eqb (number (sha1Of (take (length p - w) p))) (trailerOf w p)
-sum-said w p d l e q = q ∙ ap₂ eqb (ap (λ (x : List ℕ). number x) e) (ap (λ (n : ℕ). be n p (length p - w)) l)
+sum-said {w} p l e q = q ∙ ap₂ eqb (ap (λ (x : List ℕ). number x) e) (ap (λ (n : ℕ). be n p (length p - w)) l)
 
 pub sum-sound : (w : ℕ) (p : List ℕ) → sumRule w p ≡ 0 → Summed w p
 unfolding sumRule
@@ -64,13 +64,14 @@ eqb-swap a b = go (eqb b a) refl
     go false e = ne-eqb a b (λ d. eqb-false b a e (sym d))
 
 -- 63: the trailer x was compared with the claim
-pub name-said : (s x : RefT (List ℕ)) (w z : ℕ) (l : List ℕ) (k : ℕ) {t : Bool} → w ≡ 20 → w ≤ length (s .now)
+pub name-said : {s x : RefT (List ℕ)} {w : ℕ} (z : ℕ) (l : List ℕ) (k : ℕ) {t : Bool} → w ≡ 20 → w ≤ length (s .now)
     → PartOf s (length (s .now) - w) w x
     → t ≡ eqb (number (x .now)) (be (length (x .now)) l (k * z + 8))
     → t ≡ eqb (claimAt z l k) (trailerOf w (s .now))
-name-said s x w z l k e h p q =
+name-said {s} {w} z l k e h p q =
     let m : length (s .now) - w + w ≤ length (s .now) = omega arith in
-    q ∙ ap₂ eqb (part-number p m) (ap (λ (n : ℕ). be n l (k * z + 8)) (part-length p m ∙ e)) ∙ eqb-swap (trailerOf w (s .now)) (claimAt z l k)
+    q ∙ ap₂ eqb (part-number p m) (ap (λ (n : ℕ). be n l (k * z + 8)) (part-length p m ∙ e))
+    ∙ eqb-swap (trailerOf w (s .now)) (claimAt z l k)
 
 module _ (w z : ℕ) (l : List ℕ) (k : ℕ) (p : List ℕ) where
   pub name-sound : nameRule w z l k p ≡ 0 → Named w z l k p

@@ -40,7 +40,7 @@ refuse-some zero rest h = absurd (omega arith)
 refuse-some (suc n) rest h = refl
 
 -- the ways through an EDGE number: m is what its rule said
-module _ (t : Bool) (e : List ℕ) (k m : ℕ) (d : m ≡ edgeRule t e k) where
+module _ (t : Bool) (e : List ℕ) (k : ℕ) {m : ℕ} (d : m ≡ edgeRule t e k) where
   pub edge-refused : 0 < m → stop m ≡ edgeNext t e k
   unfolding edgeNext
   edge-refused h = rw (← d) (refuse-some m _ h)
@@ -54,9 +54,9 @@ module _ (t : Bool) (e : List ℕ) (k m : ℕ) (d : m ≡ edgeRule t e k) where
       let p3 = pass 54 _ _ (lit< tt) (p2 .1) in
       ltb-false (length e) (4 * k + 4) (p3 .0)
 
-  pub edge-goes : m ≤ 0 → (w : ℕ) → w ≡ be 4 e (4 * k) → (x v : ExtraEdge) → x ≡ extraOf w → x ≡ v → extraNext v k ≡ edgeNext t e k
+  pub edge-goes : m ≤ 0 → {w : ℕ} → w ≡ be 4 e (4 * k) → {x v : ExtraEdge} → x ≡ extraOf w → x ≡ v → extraNext v k ≡ edgeNext t e k
   unfolding edgeNext refuseNext
-  edge-goes h w q x v p g =
+  edge-goes h q p g =
       let z : edgeRule t e k ≡ 0 = omega arith in
       rw (z, ← q) (ap (λ (y : ExtraEdge). extraNext y k) (sym g ∙ p))
 
@@ -104,7 +104,7 @@ module _ (a b : ParentEdge) (t : Bool) (e : List ℕ) where
       go zero q = past-follow (edgeRule t e k) _ (past-rule k (omega arith))
       go (suc left) q =
           let d : wordsIn e - (k + 1) ≡ left = omega arith in
-          rw (← d) (refuse-follow (edgeRule t e k) (extraOf (be 4 e (4 * k))) k)
+          rw (← d) (refuse-follow (edgeRule t e k) _ k)
 
   second-follow : (x : ParentEdge) → secondWalk t e x ≡ follow (secondNext t e x) (restOf a b t e)
   unfolding secondWalk secondNext followMet restOf
@@ -156,8 +156,9 @@ module _ (t : Bool) (e : List ℕ) where
   edge-fair k n g = go (edgeRule t e k) refl
     where
       go : (m : ℕ) → edgeRule t e k ≡ m
-          → Fair e n (refuseNext m (extraNext (extraOf (be 4 e (4 * k))) k) .met) (refuseNext m (extraNext (extraOf (be 4 e (4 * k))) k) .phase)
-      go zero q = let h : 4 * k + 4 ≤ length e = edge-there t e k 0 (sym q) (omega arith) in extra-fair (extraOf (be 4 e (4 * k))) k n (omega arith) g
+          → Fair e n (refuseNext m (extraNext (extraOf (be 4 e (4 * k))) k) .met)
+          (refuseNext m (extraNext (extraOf (be 4 e (4 * k))) k) .phase)
+      go zero q = let h : 4 * k + 4 ≤ length e = edge-there t e k (sym q) (omega arith) in extra-fair _ k n (omega arith) g
       go (suc m) q = (omega arith, refl)
 
   pub next-fair : (a b : ParentEdge) (s : Phase) → Fair e (mostFrom e s) (nextOf a b t e s .met) (nextOf a b t e s .phase)
@@ -174,7 +175,7 @@ module _ (t : Bool) (e : List ℕ) where
   next-fair a b Exhausted = refl
 
 -- a turn of a count: x is what the step gave at phase s
-module _ (a b : ParentEdge) (t : Bool) (e : List ℕ) (s : Phase) (x : Next) (d : x ≡ nextOf a b t e s) where
+module _ (a b : ParentEdge) (t : Bool) (e : List ℕ) (s : Phase) {x : Next} (d : x ≡ nextOf a b t e s) where
   fair : Fair e (mostFrom e s) (x .met) (x .phase)
   fair = subst (λ (y : Next). Fair e (mostFrom e s) (y .met) (y .phase)) (sym d) (next-fair t e a b s)
 
@@ -182,13 +183,13 @@ module _ (a b : ParentEdge) (t : Bool) (e : List ℕ) (s : Phase) (x : Next) (d 
   rest = rest-follow a b t e s ∙ ap (λ (y : Next). follow y (restOf a b t e)) (sym d)
 
   -- what is left at s, by what the step met
-  pub rest-parent : (q : Ancestor) → x .met ≡ Parent q → restOf a b t e s ≡ parent (q .position .0) (restOf a b t e (x .phase))
+  pub rest-parent : {q : Ancestor} → x .met ≡ Parent q → restOf a b t e s ≡ parent (q .position .0) (restOf a b t e (x .phase))
   unfolding followMet
-  rest-parent q h = rest ∙ rw h
+  rest-parent h = rest ∙ rw h
 
-  pub rest-stop : (r : ℕ) → x .met ≡ Refused r → restOf a b t e s ≡ ends r
+  pub rest-stop : {r : ℕ} → x .met ≡ Refused r → restOf a b t e s ≡ ends r
   unfolding followMet
-  rest-stop r h = rest ∙ rw h
+  rest-stop h = rest ∙ rw h
 
   pub rest-end : x .met ≡ End → restOf a b t e s ≡ ends 0
   unfolding followMet
@@ -200,21 +201,21 @@ module _ (a b : ParentEdge) (t : Bool) (e : List ℕ) (s : Phase) (x : Next) (d 
     named zero h = absurd (omega arith)
     named (suc r) h = refl
 
-    pub count-next : (q : Ancestor) → x .met ≡ Parent q → countFrom n (restOf a b t e s) ≡ countFrom (n + 1) (restOf a b t e (x .phase))
+    pub count-next : {q : Ancestor} → x .met ≡ Parent q → countFrom n (restOf a b t e s) ≡ countFrom (n + 1) (restOf a b t e (x .phase))
     unfolding countFrom
-    count-next q h = ap (countFrom n) (rest-parent q h)
+    count-next {q} h = ap (countFrom n) (rest-parent h)
 
-    pub count-stop : (r : ℕ) → x .met ≡ Refused r → Stopped r ≡ countFrom n (restOf a b t e s)
+    pub count-stop : {r : ℕ} → x .met ≡ Refused r → Stopped r ≡ countFrom n (restOf a b t e s)
     unfolding countFrom Fair
-    count-stop r h = named r (subst (λ (m : Met). Fair e (mostFrom e s) m (x .phase)) h fair .0) ∙ sym (ap (countFrom n) (rest-stop r h))
+    count-stop {r} h = named r (subst (λ (m : Met). Fair e (mostFrom e s) m (x .phase)) h fair .0) ∙ sym (ap (countFrom n) (rest-stop h))
 
     pub count-end : x .met ≡ End → Count n ≡ countFrom n (restOf a b t e s)
     unfolding countFrom counted
     count-end h = sym (ap (countFrom n) (rest-end h))
 
-  pub next-less : (q : Ancestor) → x .met ≡ Parent q → mostFrom e (x .phase) < mostFrom e s
+  pub next-less : {q : Ancestor} → x .met ≡ Parent q → mostFrom e (x .phase) < mostFrom e s
   unfolding Fair
-  next-less q h = subst (λ (m : Met). Fair e (mostFrom e s) m (x .phase)) h fair
+  next-less h = subst (λ (m : Met). Fair e (mostFrom e s) m (x .phase)) h fair
 
 -- a count of a walk: how many positions it answers, or the refusal that it ends with
 count-walk : (n : ℕ) (w : Walked) → countFrom n w ≡ counted (endOf w) (n + length (positions w))
@@ -222,15 +223,15 @@ unfolding countFrom endOf positions
 count-walk n (ends r) = ap (counted r) (omega arith)
 count-walk n (parent p w) = count-walk (n + 1) w ∙ ap (counted (endOf w)) (omega arith)
 
-counted-all : (r n m : ℕ) → counted r n ≡ Count m → (r ≡ 0) × (n ≡ m)
+counted-all : (r n : ℕ) {m : ℕ} → counted r n ≡ Count m → (r ≡ 0) × (n ≡ m)
 unfolding counted
-counted-all zero n m e = (refl, cc)
-counted-all (suc r) n m e = let z : _≡_ {A = ℕ} 0 1 = cc in absurd (omega arith)
+counted-all zero n e = (refl, cc)
+counted-all (suc r) n e = let z : _≡_ {A = ℕ} 0 1 = cc in absurd (omega arith)
 
-counted-short : (r n m : ℕ) → counted r n ≡ Stopped m → (r ≡ m) × (0 < m)
+counted-short : (r n : ℕ) {m : ℕ} → counted r n ≡ Stopped m → (r ≡ m) × (0 < m)
 unfolding counted
-counted-short zero n m e = let z : _≡_ {A = ℕ} 0 1 = cc in absurd (omega arith)
-counted-short (suc r) n m e = let q : suc r ≡ m = cc in (q, omega arith)
+counted-short zero n e = let z : _≡_ {A = ℕ} 0 1 = cc in absurd (omega arith)
+counted-short (suc r) n {m} e = let q : suc r ≡ m = cc in (q, omega arith)
 
 module _ (a b : ParentEdge) (t : Bool) (e : List ℕ) where
   count-is : countOf a b t e ≡ counted (endOf (firstWalk a b t e)) (length (positions (firstWalk a b t e)))
@@ -238,9 +239,9 @@ module _ (a b : ParentEdge) (t : Bool) (e : List ℕ) where
   count-is = count-walk 0 (firstWalk a b t e) ∙ ap (counted (endOf (firstWalk a b t e))) (omega arith)
 
   -- x is what the count said
-  module _ (x : Counted) (d : x ≡ countOf a b t e) where
-    pub count-all : (m : ℕ) → x ≡ Count m → (endOf (firstWalk a b t e) ≡ 0) × (length (positions (firstWalk a b t e)) ≡ m)
-    count-all m h = counted-all _ _ m (sym count-is ∙ sym d ∙ h)
+  module _ {x : Counted} (d : x ≡ countOf a b t e) where
+    pub count-all : {m : ℕ} → x ≡ Count m → (endOf (firstWalk a b t e) ≡ 0) × (length (positions (firstWalk a b t e)) ≡ m)
+    count-all {m} h = counted-all _ _ (sym count-is ∙ sym d ∙ h)
 
-    pub count-short : (m : ℕ) → x ≡ Stopped m → (endOf (firstWalk a b t e) ≡ m) × (0 < m)
-    count-short m h = counted-short _ (length (positions (firstWalk a b t e))) m (sym count-is ∙ sym d ∙ h)
+    pub count-short : {m : ℕ} → x ≡ Stopped m → (endOf (firstWalk a b t e) ≡ m) × (0 < m)
+    count-short {m} h = counted-short _ _ (sym count-is ∙ sym d ∙ h)

@@ -16,7 +16,7 @@ use Rattle.sums.specs.Sums.{checksumRule}
 use Rattle.rules.proofs.Entries.{or-hit, or-miss}
 use Rattle.rules.proofs.Trailers.{sum-plain}
 
-module _ (p : List ℕ) (f : File) (m : ℕ) (e : m ≡ fitRule p f) where
+module _ (p : List ℕ) (f : File) {m : ℕ} (e : m ≡ fitRule p f) where
   pub checksum-misfit : 0 < m → m ≡ checksumRule p f
   unfolding checksumRule
   checksum-misfit h = e ∙ or-hit _ _ (omega arith)
@@ -32,6 +32,6 @@ module _ (p : List ℕ) (f : File) (m : ℕ) (e : m ≡ fitRule p f) where
     pub trailer-room : f .width ≤ length p
     trailer-room = let k : Fitted p f = fitted p f fit in omega (arith, k .fan, k .narrow)
 
-    pub checksum-sum : (k : ℕ) → k ≡ sumIn (f .width) p → k ≡ checksumRule p f
+    pub checksum-sum : {k : ℕ} → k ≡ sumIn (f .width) p → k ≡ checksumRule p f
     unfolding checksumRule
-    checksum-sum k d = d ∙ sum-plain (f .width) p width-known trailer-room ∙ sym (or-miss _ _ fit)
+    checksum-sum d = d ∙ sum-plain (f .width) p width-known trailer-room ∙ sym (or-miss _ fit)

@@ -35,7 +35,8 @@ module _ (n : ℕ) (d : List ℕ) (rest : ℕ) where
   fill-left zero f h = absurd (omega (arith, f .room))
   fill-left (suc i) f h = omega arith
 
-  pub fill-next : (from : ℕ) (v : ℕ) → Filling n d from rest → 10 ≤ rest → v ≡ 48 + rest % 10 → Filling n (set d from v) (from - 1) (rest / 10)
+  pub fill-next : (from : ℕ) (v : ℕ) → Filling n d from rest → 10 ≤ rest → v ≡ 48 + rest % 10
+      → Filling n (set d from v) (from - 1) (rest / 10)
   fill-next zero v f h e = absurd (omega (arith, f .room))
   fill-next (suc i) v f h e =
       let z : suc i - 1 ≡ i = omega arith in
@@ -46,13 +47,13 @@ module _ (n : ℕ) (d : List ℕ) (rest : ℕ) where
         so-far = f .so-far ∙ rw (dec-more rest h, drop-set d (suc i) v (omega (arith, f .size, f .place)), e, append-assoc);
       })
 
-  module _ (from v : ℕ) (f : Filling n d from rest) where
+  module _ {from : ℕ} (v : ℕ) (f : Filling n d from rest) where
     pub fill-size : 20 ≤ length (set d from v)
     fill-size = rw length-set (omega (arith, f .size))
 
     -- the last store, and the part that is the whole text
     pub fill-ends : rest < 10 → v ≡ 48 + rest → take (20 - from) (drop from (set d from v)) ≡ dec n
     fill-ends h e =
-        take-all (20 - from) (drop from (set d from v)) (simp (length-drop, length-set) (omega (arith, f .size)))
+        take-all (20 - from) _ (simp (length-drop, length-set) (omega (arith, f .size)))
         ∙ drop-set d from v (omega (arith, f .size, f .place))
         ∙ rw e (sym (f .so-far ∙ rw (dec-small rest h)))

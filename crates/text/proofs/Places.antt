@@ -69,14 +69,15 @@ module _ (out₀ : List ℕ) (at : ℕ) (s : List ℕ) where
   pub put-begins : at + length s ≤ length out₀ → Putting out₀ at s out₀ 0
   put-begins h = record { few = omega arith; room = h; same = search; so-far = paste-zero out₀ at s }
 
-  module _ (out : List ℕ) (i : ℕ) (p : Putting out₀ at s out i) where
+  module _ {out : List ℕ} {i : ℕ} (p : Putting out₀ at s out i) where
     pub put-next : i < length s → Putting out₀ at s (set out (at + i) (getD s i 0)) (i + 1)
     put-next h =
         record {
           few = omega arith;
           room = p .room;
           same = length-set out (at + i) (getD s i 0) ∙ p .same;
-          so-far = ap (λ (l : List ℕ). set l (at + i) (getD s i 0)) (p .so-far) ∙ rw add-one (paste-suc out₀ at s i 0 (omega (arith, p .room)) h);
+          so-far = ap (λ (l : List ℕ). set l (at + i) (getD s i 0)) (p .so-far)
+              ∙ rw add-one (paste-suc out₀ at s i 0 (omega (arith, p .room)) h);
         }
 
     pub put-ends : length s ≤ i → (at + length s ≡ after (length out₀) at s) × (out ≡ written out₀ at s)

@@ -37,7 +37,7 @@ use Rattle.rules.proofs.Entries.{or-hit, or-miss, entry-plain}
 
 -- ── one commit ──
 
-module _ (q : Parts) (n i : ℕ) (o : Holds q n) (l : i < n) where
+module _ {q : Parts} {n : ℕ} (i : ℕ) (o : Holds q n) (l : i < n) where
   rows-room : i * (q .width + 16) + (q .width + 16) ≤ length (q .rows)
   rows-room = let z = run-within i n (q .width + 16) l in omega (arith, o .rows)
 
@@ -56,7 +56,7 @@ module _ (q : Parts) (n i : ℕ) (o : Holds q n) (l : i < n) where
       rw z
 
   -- m is what the entry met
-  module _ (m : ℕ) (e : m ≡ entryIn (q .width) (q .fan) (q .ids) (q .rows) i) where
+  module _ {m : ℕ} (e : m ≡ entryIn (q .width) (q .fan) (q .ids) (q .rows) i) where
     pub tried-entry : (r : Tried) → r .number ≡ m → 0 < m → TriedAs q i r
     unfolding commitRule
     tried-entry r d h =
@@ -68,36 +68,39 @@ module _ (q : Parts) (n i : ℕ) (o : Holds q n) (l : i < n) where
         }
 
     -- x is what was asked for
-    module _ (h : m ≤ 0) (x : Asked) (u : x ≡ commitIn (q .width) (q .rows) i) where
+    module _ (h : m ≤ 0) {x : Asked} (u : x ≡ commitIn (q .width) (q .rows) i) where
       past : (r : Tried) → r .number ≡ endOf (walkIn q i) → r .number ≡ commitRule q i
       unfolding commitRule
       past r d =
           let p : entryRule (q .width) (q .fan) (q .ids) (q .rows) i ≡ 0 = omega (arith, entry-is) in
-          d ∙ sym (or-miss _ _ p)
+          d ∙ sym (or-miss _ p)
 
-      pub tried-none : (r : Refusal) → x ≡ Refused r → ⊥
-      tried-none r d = let z : _≡_ {A = ℕ} 0 1 = cc (row-is) in omega arith
+      pub tried-none : {r : Refusal} → x ≡ Refused r → ⊥
+      tried-none d = let z : _≡_ {A = ℕ} 0 1 = cc (row-is) in omega arith
 
       -- v is the commit, y what its count said
-      module _ (v : Commit) (g : x ≡ Is v) (y : Counted) (d : y ≡ countOf (v .first) (v .second) (q .there) (q .edge)) where
+      module _ {v : Commit} (g : x ≡ Is v) {y : Counted} (d : y ≡ countOf (v .first) (v .second) (q .there) (q .edge)) where
         row : v ≡ commitOf (q .rows) (i * (q .width + 16) + q .width)
         row = cc (row-is)
 
-        counted : y ≡ countOf (commitOf (q .rows) (i * (q .width + 16) + q .width) .first) (commitOf (q .rows) (i * (q .width + 16) + q .width) .second) (q .there) (q .edge)
+        counted : y
+            ≡ countOf (commitOf (q .rows) (i * (q .width + 16) + q .width) .first)
+            (commitOf (q .rows) (i * (q .width + 16) + q .width) .second) (q .there) (q .edge)
         counted = d ∙ ap (λ (z : Commit). countOf (z .first) (z .second) (q .there) (q .edge)) row
 
-        pub tried-walk : (k : ℕ) → y ≡ Stopped k → (r : Tried) → r .number ≡ k → TriedAs q i r
-        tried-walk k b r w =
-            let z = count-short _ _ (q .there) (q .edge) y counted k b in
+        pub tried-walk : {k : ℕ} → y ≡ Stopped k → (r : Tried) → r .number ≡ k → TriedAs q i r
+        tried-walk {k} b r w =
+            let z = count-short _ _ (q .there) (q .edge) counted b in
             record {
               number = past r (w ∙ sym (z .0));
               parents = λ a. absurd (omega (arith, z .1));
               generation = λ a. absurd (omega (arith, z .1));
             }
 
-        pub tried-fine : (k : ℕ) → y ≡ Count k → (r : Tried) → r .number ≡ 0 → r .parents ≡ k → r .generation ≡ v .generation → TriedAs q i r
-        tried-fine k b r w p t =
-            let z = count-all _ _ (q .there) (q .edge) y counted k b in
+        pub tried-fine : {k : ℕ} → y ≡ Count k → (r : Tried) → r .number ≡ 0 → r .parents ≡ k → r .generation ≡ v .generation
+            → TriedAs q i r
+        tried-fine {k} b r w p t =
+            let z = count-all _ _ (q .there) (q .edge) counted b in
             record {
               number = past r (w ∙ sym (z .0));
               parents = λ a. p ∙ sym (z .1);
@@ -120,7 +123,8 @@ pub record Scanning (q : Parts) (n c h w m : ℕ) (t : List ℕ) : Type 0 where
 
 pub scan-begins : (q : Parts) (n : ℕ) → Scanning q n 0 0 0 0 (replicate 66 0)
 unfolding highestBelow lowestBelow
-scan-begins q n = record { sofar = sofar-begins (bad q) n; highest = refl; lowest = refl; most = refl; counts = sym (counts-none (keyIn q)) }
+scan-begins q n =
+    record { sofar = sofar-begins (bad q) n; highest = refl; lowest = refl; most = refl; counts = sym (counts-none (keyIn q)) }
 
 -- the ways to the lower of two
 module _ (c old g : ℕ) where
@@ -142,18 +146,18 @@ module _ (c old g : ℕ) where
   pub lower-old : (c ≡ 0 → ⊥) → old ≤ g → old ≡ lowerOf c old g
   lower-old h l = omega (arith, lower-min h)
 
-lower-adds : (f : ℕ → ℕ) (n x g r : ℕ) → g ≡ f n → x ≡ lowestBelow f n → r ≡ lowerOf n x g → r ≡ lowestBelow f (n + 1)
+lower-adds : (f : ℕ → ℕ) (n : ℕ) {x g r : ℕ} → g ≡ f n → x ≡ lowestBelow f n → r ≡ lowerOf n x g → r ≡ lowestBelow f (n + 1)
 unfolding lowerOf
-lower-adds f zero x g r e d q = lowest-begins f zero x g r e refl q
-lower-adds f (suc n) x g r e d q = lowest-adds f (suc n) x g r e (omega arith) d q
+lower-adds f zero {x} {g} {r} e d q = lowest-begins f zero x r e refl q
+lower-adds f (suc n) {x} {g} {r} e d q = lowest-adds f (suc n) x r e (omega arith) d q
 
-module _ (q : Parts) (n c highest lowest most : ℕ) (counts : List ℕ) (s : Scanning q n c highest lowest most counts) where
+module _ {q : Parts} {n c highest lowest most : ℕ} {counts : List ℕ} (s : Scanning q n c highest lowest most counts) where
   -- t is how commit c went
-  module _ (l : c < n) (t : Tried) (a : TriedAs q c t) where
+  module _ (l : c < n) {t : Tried} (a : TriedAs q c t) where
     pub scan-stops : (r : Scanned) → 0 < t .number → r .number ≡ t .number → r .place ≡ c → ScannedAs q n r
     unfolding badCommit commitRules
     scan-stops r h d p =
-        let x = sofar-stops (commitRule q) (bad q) (bad-is q) n c (s .sofar) (t .number) l (a .number) h in
+        let x = sofar-stops (commitRule q) (bad-is q) (s .sofar) l (a .number) h in
         record {
           number = d ∙ x .1;
           place = p ∙ x .0;
@@ -163,32 +167,32 @@ module _ (q : Parts) (n c highest lowest most : ℕ) (counts : List ℕ) (s : Sc
           counts = λ z. let y : ⊥ = omega arith in absurd y;
         }
 
-    module _ (h : t .number ≤ 0) (k : ℕ) (e : k ≡ keyOf (t .parents)) (b : k < 66) where
+    module _ (h : t .number ≤ 0) {k : ℕ} (e : k ≡ keyOf (t .parents)) (b : k < 66) where
       key-is : k ≡ keyIn q c
       unfolding keyIn
       key-is = e ∙ ap keyOf (a .parents (omega arith))
 
       pub scan-small : getD counts k 0 ≤ c
-      scan-small = counts-small (keyIn q) c k counts key-is b (s .counts)
+      scan-small = counts-small (keyIn q) c key-is b (s .counts)
 
-      pub scan-next : (high low top : ℕ) → high ≡ max highest (t .generation) → low ≡ lowerOf c lowest (t .generation) → top ≡ max most (t .parents)
-          → Scanning q n (c + 1) high low top (set counts k (getD counts k 0 + 1))
-      scan-next high low top x y z =
+      pub scan-next : {high low top : ℕ} → high ≡ max highest (t .generation) → low ≡ lowerOf c lowest (t .generation)
+          → top ≡ max most (t .parents) → Scanning q n (c + 1) high low top (set counts k (getD counts k 0 + 1))
+      scan-next {high} {low} {top} x y z =
           let g : t .generation ≡ genIn q c = a .generation (omega arith) in
           let p : t .parents ≡ parentsIn q c = a .parents (omega arith) in
           record {
-            sofar = sofar-next (commitRule q) (bad q) (bad-is q) n c (s .sofar) (t .number) l (a .number) h;
-            highest = highest-adds (genIn q) c highest (t .generation) high g (s .highest) x;
-            lowest = lower-adds (genIn q) c lowest (t .generation) low g (s .lowest) y;
-            most = highest-adds (parentsIn q) c most (t .parents) top p (s .most) z;
-            counts = counts-adds (keyIn q) c k counts key-is b (s .counts);
+            sofar = sofar-next (commitRule q) (bad-is q) (s .sofar) l (a .number) h;
+            highest = highest-adds (genIn q) c highest high g (s .highest) x;
+            lowest = lower-adds (genIn q) c g (s .lowest) y;
+            most = highest-adds (parentsIn q) c most top p (s .most) z;
+            counts = counts-adds (keyIn q) c key-is b (s .counts);
           }
 
-  pub scan-ends : n ≤ c → (r : Scanned) → r .number ≡ 0 → r .place ≡ c → r .highest ≡ highest → r .lowest ≡ lowest → r .most ≡ most → r .counts ≡ counts
-      → ScannedAs q n r
+  pub scan-ends : n ≤ c → (r : Scanned) → r .number ≡ 0 → r .place ≡ c → r .highest ≡ highest → r .lowest ≡ lowest → r .most ≡ most
+      → r .counts ≡ counts → ScannedAs q n r
   unfolding badCommit commitRules
   scan-ends l r d p h w m k =
-      let x = sofar-ends (commitRule q) (bad q) (bad-is q) n c (s .sofar) l in
+      let x = sofar-ends (commitRule q) (bad-is q) (s .sofar) l in
       let e : c ≡ n = omega (arith, s .sofar .most) in
       record {
         number = d ∙ x .1;
@@ -202,22 +206,24 @@ module _ (q : Parts) (n c highest lowest most : ℕ) (counts : List ℕ) (s : Sc
 -- ── a file's parts ──
 
 parts-same : (w : ℕ) {a b c d x y z v : List ℕ} {s t : Bool} → a ≡ x → b ≡ y → c ≡ z → d ≡ v → s ≡ t
-    → _≡_ {A = Parts} (record { width = w; fan = a; ids = b; rows = c; edge = d; there = s }) (record { width = w; fan = x; ids = y; rows = z; edge = v; there = t })
+    → _≡_ {A = Parts} (record { width = w; fan = a; ids = b; rows = c; edge = d; there = s })
+    (record { width = w; fan = x; ids = y; rows = z; edge = v; there = t })
 parts-same w p q r s t = rw (p, q, r, s, t)
 
-module _ (s : RefT (List ℕ)) (f : File) (o : Opened (s .now) f) where
+module _ (s : RefT (List ℕ)) {f : File} (o : Opened (s .now) f) where
   pub file-holds : Holds (partsOf (s .now) f) (f .commits)
   file-holds = record {
     known = o .known;
     ids = length-part (f .oidl) (f .commits * f .width) (s .now) (o .fitted .ids);
-    rows = length-part (f .cdat) (f .commits * (f .width + 16)) (s .now) (o .fitted .rows);
+    rows = length-part (f .cdat) _ (s .now) (o .fitted .rows);
   }
 
   -- what was cut out of its bytes
-  module _ (fan ids rows edge : RefT (List ℕ)) (there : Bool)
-      (a : RecordsOf s (f .oidf) 256 4 fan) (b : RecordsOf s (f .oidl) (f .commits) (f .width) ids) (c : RecordsOf s (f .cdat) (f .commits) (f .width + 16) rows)
-      (at n : ℕ) (p : at ≡ startOf (f .edge)) (r : n ≡ sizeOf (f .edge)) (d : RecordsOf s at n 1 edge) (t : there ≡ not (absent (f .edge))) where
-    cut-is : record { width = f .width; fan = fan .now; ids = ids .now; rows = rows .now; edge = edge .now; there = there } ≡ partsOf (s .now) f
+  module _ (fan ids rows edge : RefT (List ℕ)) {there : Bool} (a : RecordsOf s (f .oidf) 256 4 fan)
+      (b : RecordsOf s (f .oidl) (f .commits) (f .width) ids) (c : RecordsOf s (f .cdat) (f .commits) (f .width + 16) rows) {at n : ℕ}
+      (p : at ≡ startOf (f .edge)) (r : n ≡ sizeOf (f .edge)) (d : RecordsOf s at n 1 edge) (t : there ≡ not (absent (f .edge))) where
+    cut-is : record { width = f .width; fan = fan .now; ids = ids .now; rows = rows .now; edge = edge .now; there = there }
+        ≡ partsOf (s .now) f
     cut-is =
         parts-same (f .width)
         (records-in s fan (f .oidf) 256 4 (o .fitted .fan) a .bytes)
@@ -226,9 +232,12 @@ module _ (s : RefT (List ℕ)) (f : File) (o : Opened (s .now) f) where
         (run-in s edge at n (omega (arith, o .fitted .edge)) d .bytes ∙ ap₂ (λ (i j : ℕ). take i (drop j (s .now))) r p)
         t
 
-    pub cut-holds : Holds (record { width = f .width; fan = fan .now; ids = ids .now; rows = rows .now; edge = edge .now; there = there }) (f .commits)
+    pub cut-holds : Holds (record { width = f .width; fan = fan .now; ids = ids .now; rows = rows .now; edge = edge .now; there = there })
+        (f .commits)
     cut-holds = subst (λ (q : Parts). Holds q (f .commits)) (sym cut-is) file-holds
 
-    pub cut-scanned : (r : Scanned) → ScannedAs (record { width = f .width; fan = fan .now; ids = ids .now; rows = rows .now; edge = edge .now; there = there }) (f .commits) r
+    pub cut-scanned : {r : Scanned}
+        → ScannedAs (record { width = f .width; fan = fan .now; ids = ids .now; rows = rows .now; edge = edge .now; there = there })
+        (f .commits) r
         → ScannedAs (partsOf (s .now) f) (f .commits) r
-    cut-scanned r h = subst (λ (q : Parts). ScannedAs q (f .commits) r) cut-is h
+    cut-scanned {r} h = subst (λ (q : Parts). ScannedAs q (f .commits) r) cut-is h

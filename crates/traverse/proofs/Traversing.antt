@@ -31,22 +31,22 @@ use Rattle.rules.proofs.Trailers.{sum-plain, name-plain}
 -- ── the list ──
 
 module _ (z n : ℕ) (l : List ℕ) where
-  place-zero : (r : ℕ) → r ≡ oneRule z n l → (r ≡ 31 → ⊥) → 0 ≡ onePlace z n l
+  place-zero : {r : ℕ} → r ≡ oneRule z n l → (r ≡ 31 → ⊥) → 0 ≡ onePlace z n l
   unfolding onePlace
-  place-zero r e h = miss _ _ 0 0 (ne-eqb (oneRule z n l) 31 (λ d. h (e ∙ d))) refl
+  place-zero e h = miss _ _ 0 0 (ne-eqb (oneRule z n l) 31 (λ d. h (e ∙ d))) refl
 
   pub one-large : 1073741824 < n → refusal 1 0 ≡ refusal (oneRule z n l) (onePlace z n l)
   unfolding oneRule
   one-large h =
       let e : 1 ≡ oneRule z n l = hit 1 _ _ (lt-ltb 1073741824 n h) in
-      ap₂ refusal e (place-zero 1 e (λ d. omega arith))
+      ap₂ refusal e (place-zero e (λ d. omega arith))
 
   module _ (h : n ≤ 1073741824) where
     pub one-size : (length l ≡ z → ⊥) → refusal 30 0 ≡ refusal (oneRule z n l) (onePlace z n l)
     unfolding oneRule
     one-size g =
         let e : 30 ≡ oneRule z n l = miss 1 _ _ 30 (le-ltb 1073741824 n h) (hit 30 _ _ (ne-not (length l) z g)) in
-        ap₂ refusal e (place-zero 30 e (λ d. omega arith))
+        ap₂ refusal e (place-zero e (λ d. omega arith))
 
     module _ (g : length l ≡ z) where
       rule-list : listRule z n l ≡ oneRule z n l
@@ -55,7 +55,7 @@ module _ (z n : ℕ) (l : List ℕ) where
 
       place-list : listPlace z n l ≡ onePlace z n l
       unfolding onePlace listPlace
-      place-list = go (eqb (listRule z n l) 31) refl
+      place-list = go _ refl
         where
           go : (t : Bool) → eqb (listRule z n l) 31 ≡ t → listPlace z n l ≡ (listPlace z n l if eqb (oneRule z n l) 31 else 0)
           go true e = hit _ _ 0 (ap (λ (x : ℕ). eqb x 31) (sym rule-list) ∙ e)
@@ -77,14 +77,14 @@ refuse-miss zero p rest h = refl
 refuse-miss (suc n) p rest h = let z : ⊥ = omega arith in absurd z
 
 -- a is what the trailer met, b the name
-module _ (z : ℕ) (c l : List ℕ) (f : File) (o : opening c ≡ Open f) where
+module _ (z : ℕ) (c l : List ℕ) {f : File} (o : opening c ≡ Open f) where
   facts : Opened c f
-  facts = opened true c f o
+  facts = opened true c o
 
   room : f .width ≤ length c
   room = omega (arith, facts .fitted .narrow, facts .least)
 
-  module _ (a : ℕ) (e : a ≡ sumIn (f .width) c) where
+  module _ {a : ℕ} (e : a ≡ sumIn (f .width) c) where
     sum-is : sumRule (f .width) c ≡ a
     sum-is = sym (e ∙ sum-plain (f .width) c (facts .known) room)
 
@@ -92,7 +92,7 @@ module _ (z : ℕ) (c l : List ℕ) (f : File) (o : opening c ≡ Open f) where
     unfolding traverseBy
     file-sum h = rw sum-is (refuse-hit a 0 _ h)
 
-    module _ (h : a ≤ 0) (b : ℕ) (d : b ≡ nameIn (f .width) z l 0 c) where
+    module _ (h : a ≤ 0) {b : ℕ} (d : b ≡ nameIn (f .width) z l 0 c) where
       name-is : nameRule (f .width) z l 0 c ≡ b
       name-is = sym (d ∙ name-plain (f .width) z l 0 c (facts .known) room)
 
@@ -101,13 +101,18 @@ module _ (z : ℕ) (c l : List ℕ) (f : File) (o : opening c ≡ Open f) where
       file-name g = rw (sum-is, name-is) (refuse-hit b 0 _ g ∙ refuse-miss a 0 _ h)
 
       -- r is how the commits went
-      module _ (g : b ≤ 0) (r : Scanned) (s : ScannedAs (partsOf c f) (f .commits) r) where
+      module _ (g : b ≤ 0) {r : Scanned} (s : ScannedAs (partsOf c f) (f .commits) r) where
         pub file-commit : 0 < r .number → refusedBy (refusal (r .number) (r .place)) ≡ traverseBy z c l (Open f)
         unfolding traverseBy
-        file-commit k = rw (sum-is, name-is, ← s .number, ← s .place) (refuse-hit (r .number) (r .place) _ k ∙ refuse-miss b 0 _ g ∙ refuse-miss a 0 _ h)
+        file-commit k =
+            rw (sum-is, name-is, ← s .number, ← s .place)
+            (refuse-hit (r .number) (r .place) _ k ∙ refuse-miss b 0 _ g ∙ refuse-miss a 0 _ h)
 
         pub file-fine : r .number ≤ 0
-            → record { verdict = Accepted (record { commits = f .commits; highest = r .highest; lowest = r .lowest; most = r .most }); counts = r .counts } ≡ traverseBy z c l (Open f)
+            → record {
+              verdict = Accepted (record { commits = f .commits; highest = r .highest; lowest = r .lowest; most = r .most });
+              counts = r .counts;
+            } ≡ traverseBy z c l (Open f)
         unfolding traverseBy summaryOf
         file-fine k =
             let n : r .number ≡ 0 = omega arith in
@@ -115,7 +120,7 @@ module _ (z : ℕ) (c l : List ℕ) (f : File) (o : opening c ≡ Open f) where
             (refuse-miss (r .number) (r .place) _ k ∙ refuse-miss b 0 _ g ∙ refuse-miss a 0 _ h)
 
 -- m is what the list met, x the opening
-module _ (z : ℕ) (c l : List ℕ) (m : Refusal) (e : m ≡ refusal (oneRule z (length c) l) (onePlace z (length c) l)) where
+module _ (z : ℕ) (c l : List ℕ) {m : Refusal} (e : m ≡ refusal (oneRule z (length c) l) (onePlace z (length c) l)) where
   list-number : oneRule z (length c) l ≡ m .number
   list-number = sym (ap (λ (r : Refusal). r .number) e)
 
@@ -123,14 +128,14 @@ module _ (z : ℕ) (c l : List ℕ) (m : Refusal) (e : m ≡ refusal (oneRule z 
   unfolding traversal
   traversal-list h = ap refusedBy e ∙ refuse-hit _ _ _ (omega (arith, list-number))
 
-  module _ (h : m .number ≤ 0) (x : Opening) (d : x ≡ opening c) where
+  module _ (h : m .number ≤ 0) {x : Opening} (d : x ≡ opening c) where
     past : traverseBy z c l (opening c) ≡ traversal z c l
     unfolding traversal
     past = refuse-miss _ _ _ (omega (arith, list-number))
 
-    pub traversal-shut : (r : Refusal) → x ≡ Refused r → refusedBy r ≡ traversal z c l
+    pub traversal-shut : {r : Refusal} → x ≡ Refused r → refusedBy r ≡ traversal z c l
     unfolding traverseBy
-    traversal-shut r g = ap (traverseBy z c l) (sym g ∙ d) ∙ past
+    traversal-shut g = ap (traverseBy z c l) (sym g ∙ d) ∙ past
 
-    pub traversal-open : (f : File) → x ≡ Open f → traverseBy z c l (Open f) ≡ traversal z c l
-    traversal-open f g = ap (traverseBy z c l) (sym g ∙ d) ∙ past
+    pub traversal-open : {f : File} → x ≡ Open f → traverseBy z c l (Open f) ≡ traversal z c l
+    traversal-open g = ap (traverseBy z c l) (sym g ∙ d) ∙ past

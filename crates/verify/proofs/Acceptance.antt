@@ -15,13 +15,11 @@ use Rattle.words.specs.First.{_if_else_, first}
 use Rattle.words.proofs.Rows.{miss, pass, eq-not}
 use Rattle.words.proofs.Searches.{first-hit, first-none}
 use Rattle.list.specs.List.{recordsOf}
-use Rattle.fit.specs.Fits.{fanPart, idsPart, rowsPart}
 use Rattle.file.specs.declared.File.{File}
 use Rattle.file.specs.declared.Opening.{Opening}
 use Rattle.file.specs.declared.Opening.the-variants.{Open, Refused as Shut}
 use Rattle.steps.specs.Walks.{Walked, ends, parent, positions, endOf}
 use Rattle.parents.specs.Walks.{walkOf}
-use Rattle.rules.specs.Rules.{sumRule}
 use Rattle.rules.proofs.Entries.{or-miss, or-none, entry-sound, entry-whole}
 use Rattle.rules.proofs.Trailers.{sum-sound, sum-whole, name-sound, name-whole}
 use Rattle.graph.specs.Chain.{commitsOf, widthIn, partAt, openAt, countAt, firstAt, commitsIn, openFrom, opened, Listed}
@@ -85,30 +83,32 @@ walk-whole limit (parent x w) e f =
 
 -- ── a refusal, or what comes after ──
 
-refuse-accepted : (n i place : ℕ) (rest : Verification) (s : Summary) → refuse n i place rest .verdict ≡ Accepted s → (n ≡ 0) × (rest .verdict ≡ Accepted s)
+refuse-accepted : (n i place : ℕ) (rest : Verification) {s : Summary} → refuse n i place rest .verdict ≡ Accepted s
+    → (n ≡ 0) × (rest .verdict ≡ Accepted s)
 unfolding refuse
-refuse-accepted zero i place rest s e = (refl, e)
-refuse-accepted (suc n) i place rest s e = let y : _≡_ {A = ℕ} 0 1 = cc in absurd (omega arith)
+refuse-accepted zero i place rest e = (refl, e)
+refuse-accepted (suc n) i place rest e = let y : _≡_ {A = ℕ} 0 1 = cc in absurd (omega arith)
 
 -- ── the opening: each file opens, and its commits are few ──
 
 module _ (z : ℕ) (c l : List ℕ) where
-  module _ (n : ℕ) (d : Listed z c l n) (y : openFrom z c l 0 n .number ≡ 0) where
-    open-next : (k at sum : ℕ) → Along z c l n k at sum → k < n → (f : File) × (openAt z c l k ≡ Open f)
-    open-next k at sum p h = go (openAt z c l k) refl
+  module _ {n : ℕ} (d : Listed z c l n) (y : openFrom z c l 0 n .number ≡ 0) where
+    open-next : {k : ℕ} (at sum : ℕ) → Along z c l n k at sum → k < n → (f : File) × (openAt z c l k ≡ Open f)
+    open-next {k} at sum p h = go (openAt z c l k) refl
       where
         go : (o : Opening) → openAt z c l k ≡ o → (f : File) × (openAt z c l k ≡ Open f)
         go (Open f) e = (f, e)
-        go (Shut q) e = let w = along-refused z c l n d k at sum p h q e in absurd (omega (arith, numbers (w .0)))
+        go (Shut q) e = let w = along-refused z c l d at sum p h q e in absurd (omega (arith, numbers (w .0)))
 
     along : (k : ℕ) → k ≤ n → (at : ℕ) × (sum : ℕ) × Along z c l n k at sum
-    along zero h = (0, 0, along-begins z c l n d)
+    along zero h = (0, 0, along-begins z c l d)
     along (suc k) h =
         let (at, sum, p) = along k (omega arith) in
-        let (f, e) = open-next k at sum p h in (
+        let (f, e) = open-next at sum p h in (
           at + length (partAt z c l k),
           sum + f .commits,
-          subst (λ (i : ℕ). Along z c l n i (at + length (partAt z c l k)) (sum + f .commits)) (add-one k) (along-next z c l n d k at sum p h f e _ refl),
+          subst (λ (i : ℕ). Along z c l n i (at + length (partAt z c l k)) (sum + f .commits)) (add-one k)
+              (along-next z c l d at sum p h f e _ refl),
         )
 
   module _ (y : opened z c l .number ≡ 0) where
@@ -120,37 +120,37 @@ module _ (z : ℕ) (c l : List ℕ) where
 
     pub all-open : (k : ℕ) → k < recordsOf z l → (f : File) × (openAt z c l k ≡ Open f)
     all-open k h =
-        let (at, sum, p) = along (recordsOf z l) listed opens k (omega arith) in
-        open-next (recordsOf z l) listed opens k at sum p h
+        let (at, sum, p) = along listed opens k (omega arith) in
+        open-next listed opens at sum p h
 
     -- 36 bytes a commit, in at most 1 GiB
     pub commits-few : commitsIn z c l * 36 ≤ 1073741824
     commits-few =
-        let (at, sum, p) = along (recordsOf z l) listed opens (recordsOf z l) (le-refl _) in
+        let (at, sum, p) = along listed opens (recordsOf z l) (le-refl _) in
         omega (arith, p .small, p .place, p .total, listed .files, listed .most)
 
   -- ── file i, with the record f ──
 
-  module _ (i : ℕ) (f : File) (e : openAt z c l i ≡ Open f) where
+  module _ (i : ℕ) {f : File} (e : openAt z c l i ≡ Open f) where
     pub commit-sound : (k : ℕ) → commitRule z c l i k ≡ 0 → SoundCommit (genAt z c l) (firstAt z c l (i + 1)) (partAt z c l i) f k
     unfolding commitRule genRule entryAt walkIn genIn
     commit-sound k q =
         let p1 = or-none _ _ (rw e at q) in
         let p2 = or-none _ _ (p1 .1) in
-        let w = walk-sound (firstAt z c l (i + 1)) (walkOf (partAt z c l i) f k) (p2 .0) in
+        let w = walk-sound (firstAt z c l (i + 1)) _ (p2 .0) in
         record {
-          entry = entry-sound (f .width) (fanPart (partAt z c l i) f) (idsPart (partAt z c l i) f) (rowsPart (partAt z c l i) f) k (p1 .0);
+          entry = entry-sound (f .width) _ _ _ k (p1 .0);
           ended = w .0;
           inside = w .1;
           right = eqb-true _ _ (not-false _ (pass 69 _ 0 (lit< tt) (p2 .1) .0));
         }
 
-    pub commit-whole : (k : ℕ) → SoundCommit (genAt z c l) (firstAt z c l (i + 1)) (partAt z c l i) f k → commitRule z c l i k ≡ 0
+    pub commit-whole : {k : ℕ} → SoundCommit (genAt z c l) (firstAt z c l (i + 1)) (partAt z c l i) f k → commitRule z c l i k ≡ 0
     unfolding commitRule genRule entryAt walkIn genIn
-    commit-whole k s =
+    commit-whole {k} s =
         rw e (
-        or-miss _ _ (entry-whole (f .width) (fanPart (partAt z c l i) f) (idsPart (partAt z c l i) f) (rowsPart (partAt z c l i) f) k (s .entry))
-        ∙ or-miss _ _ (walk-whole (firstAt z c l (i + 1)) (walkOf (partAt z c l i) f k) (s .ended) (s .inside))
+        or-miss _ (entry-whole (f .width) _ _ _ k (s .entry))
+        ∙ or-miss _ (walk-whole (firstAt z c l (i + 1)) (walkOf (partAt z c l i) f k) (s .ended) (s .inside))
         ∙ sym (miss 69 _ 0 0 (eq-not _ _ (s .right)) refl)
         )
 
@@ -162,7 +162,7 @@ module _ (z : ℕ) (c l : List ℕ) where
     unfolding headRule baseRule badBase alien commitRules badCommit bad basesIn baseIn widthIn
     file-sound h q =
         let p1 = or-none (baseRule z c l i) _ h in
-        let p2 = or-none (sumRule (widthIn (openAt z c l i)) (partAt z c l i)) _ (p1 .1) in
+        let p2 = or-none _ _ (p1 .1) in
         let b1 = pass 60 _ _ (lit< tt) (p1 .0) in
         let b2 = pass 61 _ 0 (lit< tt) (b1 .1) in
         record {
@@ -170,23 +170,24 @@ module _ (z : ℕ) (c l : List ℕ) where
           base = λ j g. eqb-true _ _ (not-false _ (rw e at (none-all (alien z c l i) i (b2 .0) j g)));
           sum = sum-sound (f .width) (partAt z c l i) (rw e at (p2 .0));
           name = name-sound (f .width) z l i (partAt z c l i) (rw e at (p2 .1));
-          commit = λ k g. commit-sound k (rules-all (commitRule z c l i) (bad z c l i) (λ j. refl) (countAt z c l i) q k (omega (arith, counts)));
+          commit = λ k g. commit-sound k
+              (rules-all (commitRule z c l i) (bad z c l i) (λ j. refl) (countAt z c l i) q k (omega (arith, counts)));
         }
 
     pub head-whole : SoundFile z c l i (partAt z c l i) f → headRule z c l i ≡ 0
     unfolding headRule baseRule badBase alien basesIn baseIn widthIn
     head-whole s =
-        or-miss (baseRule z c l i) _ (sym (
+        or-miss _ (sym (
         miss 60 _ _ 0 (rw e (eq-not (f .bases) i (s .bases)))
         (miss 61 _ 0 0 (all-none (alien z c l i) i (λ j g. rw e (eq-not _ _ (s .base j g)))) refl)
         ))
-        ∙ rw e (or-miss _ _ (sum-whole (f .width) (partAt z c l i) (s .sum)) ∙ name-whole (f .width) z l i (partAt z c l i) (s .name))
+        ∙ rw e (or-miss _ (sum-whole (f .width) (partAt z c l i) (s .sum)) ∙ name-whole (f .width) z l i (partAt z c l i) (s .name))
 
     pub commits-whole : SoundFile z c l i (partAt z c l i) f → commitRules z c l i ≡ 0
     unfolding commitRules badCommit bad
     commits-whole s =
         all-rules (commitRule z c l i) (bad z c l i) (λ j. refl) (countAt z c l i)
-        (λ k g. commit-whole k (s .commit k (omega (arith, counts))))
+        (λ k g. commit-whole (s .commit k (omega (arith, counts))))
 
   -- ── the chain ──
 
@@ -194,31 +195,33 @@ module _ (z : ℕ) (c l : List ℕ) where
   abbrev Passed : ℕ → Type 0
   Passed i = (headRule z c l i ≡ 0) × (commitRules z c l i ≡ 0)
 
-  files-passed : (left i : ℕ) (s : Summary) → verifyFrom z c l left i .verdict ≡ Accepted s → (j : ℕ) → i ≤ j → j < i + left → Passed j
+  files-passed : (left i : ℕ) {s : Summary} → verifyFrom z c l left i .verdict ≡ Accepted s → (j : ℕ) → i ≤ j → j < i + left → Passed j
   unfolding verifyFrom
-  files-passed zero i s e j a b = absurd (omega arith)
-  files-passed (suc left) i s e j a b =
-      let h = refuse-accepted _ _ _ _ s e in
-      let k = refuse-accepted _ _ _ _ s (h .1) in
-      ⊎-elim (λ (q : i ≡ j). subst Passed q (h .0, k .0)) (λ (q : i < j). files-passed left (i + 1) s (k .1) j (omega arith) (omega arith)) (eq-or-lt-of-le a)
+  files-passed zero i e j a b = absurd (omega arith)
+  files-passed (suc left) i {s} e j a b =
+      let h = refuse-accepted _ _ _ _ e in
+      let k = refuse-accepted _ _ _ _ (h .1) in
+      ⊎-elim (λ (q : i ≡ j). subst Passed q (h .0, k .0)) (λ (q : i < j). files-passed left (i + 1) (k .1) j (omega arith) (omega arith))
+      (eq-or-lt-of-le a)
 
   passed-files : (left i : ℕ) → ((j : ℕ) → i ≤ j → j < i + left → Passed j) → verifyFrom z c l left i ≡ accepted z c l
   unfolding verifyFrom
   passed-files zero i f = refl
   passed-files (suc left) i f =
       let p = f i (omega arith) (omega arith) in
-      refuse-none _ _ _ _ (p .0) ∙ refuse-none _ _ _ _ (p .1) ∙ passed-files left (i + 1) (λ j a b. f j (omega arith) (omega arith))
+      refuse-none _ _ _ (p .0) ∙ refuse-none _ _ _ (p .1) ∙ passed-files left (i + 1) (λ j a b. f j (omega arith) (omega arith))
 
-  pub sound-of : (s : Summary) → verification z c l .verdict ≡ Accepted s → Sound z c l
+  pub sound-of : {s : Summary} → verification z c l .verdict ≡ Accepted s → Sound z c l
   unfolding verification pickVerified
-  sound-of s = go (ltb 0 (opened z c l .number)) refl
+  sound-of {s} = go _ refl
     where
-      go : (t : Bool) → ltb 0 (opened z c l .number) ≡ t → pickVerified t (refusedBy (opened z c l)) (verifyFrom z c l (recordsOf z l) 0) .verdict ≡ Accepted s → Sound z c l
+      go : (t : Bool) → ltb 0 (opened z c l .number) ≡ t
+          → pickVerified t (refusedBy (opened z c l)) (verifyFrom z c l (recordsOf z l) 0) .verdict ≡ Accepted s → Sound z c l
       go true q e = let y : _≡_ {A = ℕ} 0 1 = cc in absurd (omega arith)
       go false q e =
           record {
             opens = omega (arith, ltb-false 0 (opened z c l .number) q);
-            file = λ i h f o. (let p = files-passed (recordsOf z l) 0 s e i (omega arith) (omega arith) in file-sound i f o (p .0) (p .1));
+            file = λ i h f o. (let p = files-passed (recordsOf z l) 0 e i (omega arith) (omega arith) in file-sound i o (p .0) (p .1));
           }
 
   pub accepted-of : Sound z c l → verification z c l ≡ accepted z c l
@@ -229,16 +232,16 @@ module _ (z : ℕ) (c l : List ℕ) where
       let h : i < recordsOf z l = omega arith in
       let (f, o) = all-open (s .opens) i h in
       let t = s .file i h f o in
-      (head-whole i f o t, commits-whole i f o t)))
+      (head-whole i o t, commits-whole i o t)))
 
   pub sound-same : verification z c l ≡ accepted z c l → Sound z c l
   unfolding accepted
-  sound-same e = sound-of _ (ap (λ (v : Verification). v .verdict) e)
+  sound-same e = sound-of (ap (λ (v : Verification). v .verdict) e)
 
   -- a refused chain is not sound
-  pub refused-not : (r : Refusal) → verification z c l .verdict ≡ Refused r → Sound z c l → ⊥
+  pub refused-not : {r : Refusal} → verification z c l .verdict ≡ Refused r → Sound z c l → ⊥
   unfolding accepted
-  refused-not r e s =
+  refused-not e s =
       let d = ap (λ (v : Verification). v .verdict) (accepted-of s) in
       let y : _≡_ {A = ℕ} 0 1 = cc in
       omega arith

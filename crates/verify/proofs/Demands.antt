@@ -49,11 +49,11 @@ module _ (z : ℕ) (c l : List ℕ) where
       record {
         size = counts-length (keyAt z c l) (commitsIn z c l);
         each = counts-at (keyAt z c l) (commitsIn z c l);
-        sum = counts-sum (keyAt z c l) (commitsIn z c l) (λ g h. key-below (length (parentsAt z c l g)));
+        sum = counts-sum (keyAt z c l) (commitsIn z c l) (λ g h. key-below _);
       }
 
   -- position g stands in an open file with the record f
-  module _ (g : ℕ) (f : File) (e : openAt z c l (fileOf z c l g) ≡ Open f) where
+  module _ (g : ℕ) {f : File} (e : openAt z c l (fileOf z c l g) ≡ Open f) where
     gen-at : genAt z c l g ≡ rowOf (partAt z c l (fileOf z c l g)) f (posOf z c l g) .generation
     unfolding genAt genIn
     gen-at = rw e
@@ -74,27 +74,31 @@ module _ (z : ℕ) (c l : List ℕ) where
     numbered =
         record {
           few = omega (arith, commits-few z c l (s .opens));
-          inside = λ g p h m.
-              (let (f, e, k) = commit-at g h in
-              omega (arith, k .inside p (rw (parents-at g f e) at m), before-le (countAt z c l) (fileOf z c l g + 1) (recordsOf z l) (omega (arith, stands z c l .file g h))));
-          right = λ g h. (let (f, e, k) = commit-at g h in gen-at g f e ∙ rw (parents-at g f e) (k .right));
+          inside = λ g p h m. (let (f, e, k) = commit-at g h in
+              omega (
+                arith,
+                k .inside p (rw (parents-at g e) at m),
+                before-le (countAt z c l) (fileOf z c l g + 1) (recordsOf z l) (omega (arith, stands z c l .file g h)),
+              ));
+          right = λ g h. (let (f, e, k) = commit-at g h in gen-at g e ∙ rw (parents-at g e) (k .right));
         }
 
     -- demand 3
-    pub length-agrees : Agrees (commitsIn z c l) (parentsAt z c l) (lengthIn (lengthBy (lengthOf (highestBelow (genAt z c l) (commitsIn z c l)))))
+    pub length-agrees : Agrees (commitsIn z c l) (parentsAt z c l)
+        (lengthIn (lengthBy (lengthOf (highestBelow (genAt z c l) (commitsIn z c l)))))
     length-agrees = rw length-back (agrees (commitsIn z c l) (parentsAt z c l) (genAt z c l) numbered)
 
     -- the highest generation is at most the number of commits, or the cap
-    pub highest-bound : (highestBelow (genAt z c l) (commitsIn z c l) ≤ commitsIn z c l) ⊎ (highestBelow (genAt z c l) (commitsIn z c l) ≡ cap)
-    highest-bound = highest-few (commitsIn z c l) (parentsAt z c l) (genAt z c l) numbered
+    pub highest-bound : (highestBelow (genAt z c l) (commitsIn z c l) ≤ commitsIn z c l)
+        ⊎ (highestBelow (genAt z c l) (commitsIn z c l) ≡ cap)
+    highest-bound = highest-few numbered
 
     ordered : (k : ℕ) → k < recordsOf z l → (f : File) → openAt z c l k ≡ Open f → Ordered (partAt z c l k) f
     unfolding leading
     ordered k h f e =
         let t : SoundFile z c l k (partAt z c l k) f = s .file k h f e in
         record {
-          rises = λ i g.
-              (let q : i + 1 - 1 ≡ i = omega arith in
+          rises = λ i g. (let q : i + 1 - 1 ≡ i = omega arith in
               let a = t .commit (i + 1) g .entry .above (omega arith) in
               subst (λ (j : ℕ). keyOf (f .width) (idsPart (partAt z c l k) f) j < keyOf (f .width) (idsPart (partAt z c l k) f) (i + 1)) q a);
           low = λ i g. t .commit i g .entry .low;
@@ -109,7 +113,8 @@ module _ (z : ℕ) (c l : List ℕ) where
       pub found-exactly : (x : List ℕ) → Bytes x → length x ≡ 20 → Exact z c l x (lookupOf z c l x)
       found-exactly = exact z c l sorted bc
 
-      pub claimed : Claimed z c l (commitsIn z c l) (lengthBy (lengthOf (highestBelow (genAt z c l) (commitsIn z c l)))) (countsOf (keyAt z c l) (commitsIn z c l))
+      pub claimed : Claimed z c l (commitsIn z c l) (lengthBy (lengthOf (highestBelow (genAt z c l) (commitsIn z c l))))
+          (countsOf (keyAt z c l) (commitsIn z c l))
       claimed = record { sound = s; commits = refl; counts = counted; found = found-exactly; agrees = length-agrees }
 
     -- a sound chain without commits is accepted with length 0
@@ -120,12 +125,12 @@ module _ (z : ℕ) (c l : List ℕ) where
   -- what any answer claims
   pub claims : Bytes c → Claims z c l (verification z c l)
   unfolding ClaimsBy accepted
-  claims bc = go (verification z c l .verdict) refl
+  claims bc = go _ refl
     where
       go : (v : Verdict) → verification z c l .verdict ≡ v → Claims z c l (verification z c l)
-      go (Accepted t) e = let s : Sound z c l = sound-of z c l t e in subst (Claims z c l) (sym (accepted-of z c l s)) (claimed s bc)
-      go (Refused r) e = subst (λ (v : Verdict). ClaimsBy z c l v (verification z c l .counts)) (sym e) (refused-not z c l r e)
+      go (Accepted t) e = let s : Sound z c l = sound-of z c l e in subst (Claims z c l) (sym (accepted-of z c l s)) (claimed s bc)
+      go (Refused r) e = subst (λ (v : Verdict). ClaimsBy z c l v (verification z c l .counts)) (sym e) (refused-not z c l e)
 
   -- a result that is the definition's has the definition's theorem
-  pub both : Bytes c → (r : Verification) → r ≡ verification z c l → (r ≡ verification z c l) × Claims z c l r
-  both bc r e = (e, subst (Claims z c l) (sym e) (claims bc))
+  pub both : Bytes c → {r : Verification} → r ≡ verification z c l → (r ≡ verification z c l) × Claims z c l r
+  both bc e = (e, subst (Claims z c l) (sym e) (claims bc))

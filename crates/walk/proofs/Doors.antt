@@ -94,11 +94,14 @@ pub answer-tells : (a : Answer) (vs : List Val) → Is answerT a vs → vs ≡ a
 answer-tells = EL.tells R′.the-type RL.the-laws
 
 -- a step is its answer and its walk
-pub apart : (s : Step) (vs : List Val) → Is stepT s vs → Is answerT (s .answer) (answerV (s .answer) ∷ []) × Is walkT (s .next) (walkV (s .next) ∷ [])
+pub apart : (s : Step) (vs : List Val) → Is stepT s vs
+    → Is answerT (s .answer) (answerV (s .answer) ∷ []) × Is walkT (s .next) (walkV (s .next) ∷ [])
 apart s vs is = (LL.owed S′.the-type SL.the-laws s vs is .0, LL.owed S′.the-type SL.the-laws s vs is .1 .0)
 
 pub joined : (s : Step) (vs : List Val) → Is answerT (s .answer) vs → Is walkT (s .next) (walkV (s .next) ∷ []) → Is stepT s (stepV s ∷ [])
-joined s vs a w = LL.owes S′.the-type SL.the-laws s (EL.owes R′.the-type RL.the-laws (s .answer) (EL.owed R′.the-type RL.the-laws (s .answer) vs a), (w, tt))
+joined s vs a w =
+    LL.owes S′.the-type SL.the-laws s
+    (EL.owes R′.the-type RL.the-laws (s .answer) (EL.owed R′.the-type RL.the-laws (s .answer) vs a), (w, tt))
 
 module _ {M : Type 1} {𝓤 : URA M} {H : Heap 𝓤} {A : Atoms 𝓤} (W : Given 𝓤 H A) where
   pub walk-typed : (w : Walk) (vs : List Val) → Is walkT w vs → Typed (walkT .mir) vs
@@ -132,11 +135,15 @@ abbrev pub tokens : {M : Type 1} (𝓤 : URA M) (κ₁ κ₂ : Lft) (q₁ q₂ :
 tokens 𝓤 κ₁ κ₂ q₁ q₂ = ‵ (flft κ₁ q₁) ⊛ (‵ (flft κ₂ q₂) ⊛ ‵ ftrue)
 
 -- slices are Copy, so what two own is had twice: P takes it, with the tokens t and what O says, and it is kept for the exit
-pub lend : {M : Type 1} (𝓤 : URA M) (H : Heap 𝓤) (A : Atoms 𝓤) (W : Given 𝓤 H A) (κ₁ κ₂ : Lft) (ch li : RefT (List ℕ)) (t : Item 𝓤) (O : Fml) (P : SProp 𝓤)
-    → ent 𝓤 (⋆ 𝓤 H A (t ∷ ‵ (fsep O (both κ₁ κ₂ ch li)) ∷ [])) P → ent 𝓤 (⋆ 𝓤 H A (t ∷ ‵ O ∷ ‵ (both κ₁ κ₂ ch li) ∷ [])) (sep 𝓤 P (sem 𝓤 H A (both κ₁ κ₂ ch li)))
+pub lend : {M : Type 1} (𝓤 : URA M) (H : Heap 𝓤) (A : Atoms 𝓤) (W : Given 𝓤 H A) (κ₁ κ₂ : Lft) (ch li : RefT (List ℕ)) (t : Item 𝓤)
+    (O : Fml) (P : SProp 𝓤)
+    → ent 𝓤 (⋆ 𝓤 H A (t ∷ ‵ (fsep O (both κ₁ κ₂ ch li)) ∷ [])) P
+    → ent 𝓤 (⋆ 𝓤 H A (t ∷ ‵ O ∷ ‵ (both κ₁ κ₂ ch li) ∷ [])) (sep 𝓤 P (sem 𝓤 H A (both κ₁ κ₂ ch li)))
 lend 𝓤 H A W κ₁ κ₂ ch li t O P asked =
-    qed W (t ∷ ‵ O ∷ ‵ (both κ₁ κ₂ ch li) ∷ []) ∵ move ! (2 ∷ []) $ fsplit ! $ use1 W (‵ (lent κ₁ ch) ⊛ ‵ (lent κ₁ ch)) (shr-slice-copy 𝓤 H A W (named 0) κ₁ u8 .twice ch (slice-vals ch)) $ split ! $
-    move ! (2 ∷ []) $ fsplit ! $ use1 W (‵ (lent κ₂ li) ⊛ ‵ (lent κ₂ li)) (shr-slice-copy 𝓤 H A W (named 0) κ₂ u8 .twice li (slice-vals li)) $ split ! $
+    qed W (t ∷ ‵ O ∷ ‵ (both κ₁ κ₂ ch li) ∷ []) ∵ move ! (2 ∷ []) $ fsplit ! $
+    use1 W (‵ (lent κ₁ ch) ⊛ ‵ (lent κ₁ ch)) (shr-slice-copy 𝓤 H A W (named 0) κ₁ u8 .twice ch (slice-vals ch)) $ split ! $
+    move ! (2 ∷ []) $ fsplit ! $
+    use1 W (‵ (lent κ₂ li) ⊛ ‵ (lent κ₂ li)) (shr-slice-copy 𝓤 H A W (named 0) κ₂ u8 .twice li (slice-vals li)) $ split ! $
     -- [list; list; true; chain; chain; t; O]
     move ! (0 ∷ 2 ∷ []) $ fjoin ! $ move ! (2 ∷ 0 ∷ []) $ fjoin ! $
     -- [both; list; chain; t; O]

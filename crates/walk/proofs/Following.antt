@@ -52,18 +52,19 @@ module _ (z : ℕ) (c l : List ℕ) where
       → ((k i : ℕ) (f : File) → P (stepBy k (partAt z c l k) (Open f) i w))
       → P (stepOf z c l w)
   unfolding stepOf pickStep stepBy openAt
-  step-ways w P halts runs = go (ltb 0 (asked z c l (w .commit .0) .number)) refl
+  step-ways w P halts runs = go _ refl
     where
       k : ℕ
       k = fileOf z c l (w .commit .0)
 
       in-file : (o : Opening) → openAt z c l k ≡ o → P (stepBy k (partAt z c l k) o (posOf z c l (w .commit .0)) w)
-      in-file (Open f) e = runs k (posOf z c l (w .commit .0)) f
-      in-file (Refused r) e = halts r (refused-named true (partAt z c l k) r e)
+      in-file (Open f) e = runs k _ f
+      in-file (Refused r) e = halts r (refused-named true (partAt z c l k) e)
 
       go : (t : Bool) → ltb 0 (asked z c l (w .commit .0) .number) ≡ t
-          → P (pickStep t (refused w (asked z c l (w .commit .0))) (stepBy k (partAt z c l k) (openAt z c l k) (posOf z c l (w .commit .0)) w))
-      go true e = halts (asked z c l (w .commit .0)) (ltb-true 0 (asked z c l (w .commit .0) .number) e)
+          → P (pickStep t (refused w (asked z c l (w .commit .0)))
+          (stepBy k (partAt z c l k) (openAt z c l k) (posOf z c l (w .commit .0)) w))
+      go true e = halts _ (ltb-true 0 _ e)
       go false e = in-file (openAt z c l k) refl
 
   told : (w : Walk) → Told (stepOf z c l w .answer) (stepOf z c l w .next .phase)
@@ -108,13 +109,14 @@ module _ (z : ℕ) (c l : List ℕ) where
     plain : askRule (partAt z c l (fileOf z c l g)) f (f .commits) (posOf z c l g) ≡ 0
     unfolding openAt
     plain =
-        asked-plain (partAt z c l (fileOf z c l g)) f (f .commits) (posOf z c l g)
-        (opened-fits (partAt z c l (fileOf z c l g)) f (file-opened true (partAt z c l (fileOf z c l g)) f o)) below
+        asked-plain _ f (f .commits) (posOf z c l g)
+        (opened-fits (file-opened true _ o)) below
 
     next : Phase → Next
     next s =
-        nextOf (rowOf (partAt z c l (fileOf z c l g)) f (posOf z c l g) .first) (rowOf (partAt z c l (fileOf z c l g)) f (posOf z c l g) .second)
-        (not (absent (f .edge))) (edgePart (partAt z c l (fileOf z c l g)) f) s
+        nextOf (rowOf (partAt z c l (fileOf z c l g)) f (posOf z c l g) .first)
+        (rowOf (partAt z c l (fileOf z c l g)) f (posOf z c l g) .second) (not (absent (f .edge)))
+        (edgePart (partAt z c l (fileOf z c l g)) f) s
 
     left : Phase → Walked
     left s = restAt (partAt z c l (fileOf z c l g)) f (posOf z c l g) s
@@ -126,26 +128,29 @@ module _ (z : ℕ) (c l : List ℕ) where
         rw (
           le-ltb 0 (asked z c l g .number) (omega arith),
           o,
-          ← step-plain (partAt z c l (fileOf z c l g)) f (posOf z c l g) s plain,
+          ← step-plain _ f (posOf z c l g) s plain,
         )
 
-    answer-is : (s : Phase) (m : Met) → next s .met ≡ m → stepOf z c l (walkAt g s) .answer ≡ answerIn (fileOf z c l g) (answerOf (posOf z c l g) m)
-    answer-is s m e = ap (λ (x : Step). x .answer) (step-is s) ∙ ap (λ (y : Met). answerIn (fileOf z c l g) (answerOf (posOf z c l g) y)) e
+    answer-is : (s : Phase) {m : Met} → next s .met ≡ m
+        → stepOf z c l (walkAt g s) .answer ≡ answerIn (fileOf z c l g) (answerOf (posOf z c l g) m)
+    answer-is s e = ap (λ (x : Step). x .answer) (step-is s) ∙ ap (λ (y : Met). answerIn (fileOf z c l g) (answerOf (posOf z c l g) y)) e
 
     -- a step that meets no parent, and one that meets one
     last : (r : ℕ) (s : Phase) (m : Met) → next s .met ≡ m → over r ≡ followMet m (left (next s .phase)) → Follows z c l (walkAt g s) [] r
     unfolding followMet answerIn answerOf
     last r s (Meets q) e d = let y : _≡_ {A = ℕ} 0 1 = cc in absurd (omega arith)
-    last r s (MeetsNo n) e d = let y : r ≡ n = cc in rw y (stops (answer-is s (MeetsNo n) e))
-    last r s MeetsEnd e d = let y : r ≡ 0 = cc in rw y (ends (answer-is s MeetsEnd e))
+    last r s (MeetsNo n) e d = let y : r ≡ n = cc in rw y (stops (answer-is s e))
+    last r s MeetsEnd e d = let y : r ≡ 0 = cc in rw y (ends (answer-is s e))
 
     more : (p : ℕ) (w : Walked) (s : Phase) (m : Met) → next s .met ≡ m → parent p w ≡ followMet m (left (next s .phase))
-        → ((t : Phase) → left t ≡ w → Follows z c l (walkAt g t) (positions w) (endOf w)) → Follows z c l (walkAt g s) (p ∷ positions w) (endOf w)
+        → ((t : Phase) → left t ≡ w → Follows z c l (walkAt g t) (positions w) (endOf w))
+        → Follows z c l (walkAt g s) (p ∷ positions w) (endOf w)
     unfolding followMet answerIn answerOf
     more p w s (Meets q) e d rest =
         let y : p ≡ q .position .0 = cc in
         let v : left (next s .phase) ≡ w = cc in
-        rw y (goes (answer-is s (Meets q) e) (subst (λ (x : Step). Follows z c l (x .next) (positions w) (endOf w)) (sym (step-is s)) (rest (next s .phase) v)))
+        rw y (goes (answer-is s e)
+        (subst (λ (x : Step). Follows z c l (x .next) (positions w) (endOf w)) (sym (step-is s)) (rest (next s .phase) v)))
     more p w s (MeetsNo n) e d rest = let y : _≡_ {A = ℕ} 0 1 = cc in absurd (omega arith)
     more p w s MeetsEnd e d rest = let y : _≡_ {A = ℕ} 0 1 = cc in absurd (omega arith)
 
@@ -164,13 +169,10 @@ module _ (z : ℕ) (c l : List ℕ) where
 
   pub ends-once : (w : Walk) → Ends z c l w
   ends-once w =
-      ⊎-elim
-      (λ (h : asked z c l (w .commit .0) .number ≤ 0).
-      let a : asked z c l (w .commit .0) .number ≡ 0 = omega arith in
+      ⊎-elim (λ (h : asked z c l (w .commit .0) .number ≤ 0). let a : asked z c l (w .commit .0) .number ≡ 0 = omega arith in
       let o = stands z c l .opens (w .commit .0) (asked-below z c l (w .commit .0) a) in
       let y = lists (w .commit .0) a (o .0) (o .1) .rest (w .phase) in
       record { parents = _; last = _; follows = y; only = λ ps e x. follows-same x y })
-      (λ (h : 0 < asked z c l (w .commit .0) .number).
-      let y : Follows z c l w [] (asked z c l (w .commit .0) .number) = stops (ap (λ (x : Step). x .answer) (sym (step-refused z c l w _ refl h))) in
-      record { parents = _; last = _; follows = y; only = λ ps e x. follows-same x y })
-      (le-or-lt (asked z c l (w .commit .0) .number) 0)
+      (λ (h : 0 < asked z c l (w .commit .0) .number). let y : Follows z c l w [] (asked z c l (w .commit .0) .number) =
+      stops (ap (λ (x : Step). x .answer) (sym (step-refused z c l w refl h))) in
+      record { parents = _; last = _; follows = y; only = λ ps e x. follows-same x y }) (le-or-lt _ 0)

@@ -30,20 +30,21 @@ held-in k (Short r) ps xs = refl
 
 -- xs is the lent list
 module _ (z : ℕ) (c : RefT (List ℕ)) (l : List ℕ) (g : ℕ) (xs : List ℕ) where
-  pub list-refused : (q : Refusal) → located z (c .now) l g ≡ Nowhere q → (Short q ≡ listOf z (c .now) l g (length xs)) × (xs ≡ heldOf z (c .now) l g xs)
+  pub list-refused : {q : Refusal} → located z (c .now) l g ≡ Nowhere q
+      → (Short q ≡ listOf z (c .now) l g (length xs)) × (xs ≡ heldOf z (c .now) l g xs)
   unfolding heldOf listOf pickTotal heldBy
-  list-refused q e =
-      let u = unspotted z (c .now) l g q e in
+  list-refused {q} e =
+      let u = unspotted z (c .now) l g e in
       let y = lt-ltb 0 (asked z (c .now) l g .number) (omega (arith, numbers (u .0), u .1)) in
       (rw y (ap Short (u .0)), rw y)
 
   -- the position stands at r, and s is the file that was cut by it
-  module _ (r : Spot) (e : located z (c .now) l g ≡ At r) {s : RefT (List ℕ)} (k : RecordsOf c (r .start) (r .size) 1 s) where
+  module _ {r : Spot} (e : located z (c .now) l g ≡ At r) {s : RefT (List ℕ)} (k : RecordsOf c (r .start) (r .size) 1 s) where
     spot : Spotted z (c .now) l g r
-    spot = spotted z (c .now) l g r e
+    spot = spotted z (c .now) l g e
 
     cut : FileOf z c l r s
-    cut = file-cut z c l g r spot k
+    cut = file-cut c spot k
 
     told : listOf z (c .now) l g (length xs) ≡ totalIn (r .file) (fileList (s .now) (r .inner) (r .pos .0) (length xs))
     unfolding listOf pickTotal listBy
@@ -54,10 +55,11 @@ module _ (z : ℕ) (c : RefT (List ℕ)) (l : List ℕ) (g : ℕ) (xs : List ℕ
     named = rw (spot .file, spot .pos, spot .opens, cut .bytes)
 
     -- t is the file's own answer and out what it left
-    pub list-told : (t a : Total) (out : List ℕ) → t ≡ fileList (s .now) (r .inner) (r .pos .0) (length xs) → out ≡ fileHeld (s .now) (r .inner) (r .pos .0) xs
-        → a ≡ totalIn (r .file) t → (a ≡ listOf z (c .now) l g (length xs)) × (out ≡ heldOf z (c .now) l g xs)
+    pub list-told : {t a : Total} {out : List ℕ} → t ≡ fileList (s .now) (r .inner) (r .pos .0) (length xs)
+        → out ≡ fileHeld (s .now) (r .inner) (r .pos .0) xs → a ≡ totalIn (r .file) t
+        → (a ≡ listOf z (c .now) l g (length xs)) × (out ≡ heldOf z (c .now) l g xs)
     unfolding heldOf fileHeld
-    list-told t a out d y w = (
+    list-told d y w = (
       w ∙ ap (totalIn (r .file)) d ∙ sym told,
-      y ∙ sym (rw (told, named) (held-in (r .file) (fileList (s .now) (r .inner) (r .pos .0) (length xs)) (positions (walkOf (s .now) (r .inner) (r .pos .0))) xs)),
+      y ∙ sym (rw (told, named) (held-in (r .file) _ _ xs)),
     )

@@ -21,20 +21,21 @@ use Rattle.walk.specs.declared.Walk.{Walk}
 use Rattle.walk.specs.declared.Step.{Step}
 
 -- q is what the question for the walk's commit met
-pub step-refused : (z : ℕ) (c l : List ℕ) (w : Walk) (q : Refusal) → q ≡ asked z c l (w .commit .0) → 0 < q .number → refused w q ≡ stepOf z c l w
+pub step-refused : (z : ℕ) (c l : List ℕ) (w : Walk) {q : Refusal} → q ≡ asked z c l (w .commit .0) → 0 < q .number
+    → refused w q ≡ stepOf z c l w
 unfolding stepOf pickStep
-step-refused z c l w q e h = rw (lt-ltb 0 (asked z c l (w .commit .0) .number) (omega (arith, numbers e))) (ap (refused w) e)
+step-refused z c l w e h = rw (lt-ltb 0 (asked z c l (w .commit .0) .number) (omega (arith, numbers e))) (ap (refused w) e)
 
 module _ (z : ℕ) (c : RefT (List ℕ)) (l : List ℕ) (w : Walk) where
-  pub step-out : (q : Refusal) → located z (c .now) l (w .commit .0) ≡ Nowhere q → refused w q ≡ stepOf z (c .now) l w
-  step-out q e = let u = unspotted z (c .now) l (w .commit .0) q e in step-refused z (c .now) l w q (u .0) (u .1)
+  pub step-out : {q : Refusal} → located z (c .now) l (w .commit .0) ≡ Nowhere q → refused w q ≡ stepOf z (c .now) l w
+  step-out {q} e = let u = unspotted z (c .now) l (w .commit .0) e in step-refused z (c .now) l w (u .0) (u .1)
 
   -- s is the file that was cut by the spot, x what its own step gave, and a its answer with the file's index
-  pub step-in : (r : Spot) → located z (c .now) l (w .commit .0) ≡ At r → {s : RefT (List ℕ)} → RecordsOf c (r .start) (r .size) 1 s
-      → (x : FileStep) → x ≡ fileStep (s .now) (r .inner) (r .pos .0) (w .phase) → (a : Answer) → a ≡ answerIn (r .file) (x .answer)
+  pub step-in : {r : Spot} → located z (c .now) l (w .commit .0) ≡ At r → {s : RefT (List ℕ)} → RecordsOf c (r .start) (r .size) 1 s
+      → {x : FileStep} → x ≡ fileStep (s .now) (r .inner) (r .pos .0) (w .phase) → {a : Answer} → a ≡ answerIn (r .file) (x .answer)
       → _≡_ {A = Step} (record { answer = a; next = record { commit = w .commit; phase = x .next } }) (stepOf z (c .now) l w)
   unfolding stepOf pickStep stepBy
-  step-in r e {s} k x q a d =
-      let h = spotted z (c .now) l (w .commit .0) r e in
-      let f = file-cut z c l (w .commit .0) r h k in
+  step-in {r} e {s} k q d =
+      let h = spotted z (c .now) l (w .commit .0) e in
+      let f = file-cut c h k in
       rw (le-ltb 0 (asked z (c .now) l (w .commit .0) .number) (omega (arith, h .fine)), h .file, h .pos, h .opens, ← f .bytes, ← q, d)

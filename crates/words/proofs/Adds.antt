@@ -40,7 +40,7 @@ module _ (count : ℕ → ℕ) where
         ⊎-elim
         (λ (z : n ≤ first (upTo count g) 0 n). absurd (none n h z (le-refl n)))
         (λ (z : first (upTo count g) 0 n < n). z)
-        (le-or-lt n (first (upTo count g) 0 n))
+        (le-or-lt n _)
       where
         none : (m : ℕ) → g < before count m → m ≤ first (upTo count g) 0 n → m ≤ n → ⊥
         none zero a z y = omega arith
@@ -50,7 +50,7 @@ module _ (count : ℕ → ℕ) where
 
     pub which-start : before count (whichOf count n g) ≤ g
     unfolding whichOf upTo before
-    which-start = go (first (upTo count g) 0 n) refl
+    which-start = go _ refl
       where
         go : (k : ℕ) → first (upTo count g) 0 n ≡ k → before count k ≤ g
         go zero e = omega arith
@@ -78,7 +78,7 @@ module _ (count : ℕ → ℕ) where
     pub which-back : whichOf count n (before count k + i) ≡ k
     unfolding whichOf upTo
     which-back =
-        first-is (upTo count (before count k + i)) n k b
+        first-is _ n k b
         (lt-ltb (before count k + i) (before count (k + 1)) (omega (arith, before-next k)))
         (λ j g. le-ltb (before count k + i) (before count (j + 1)) (omega (arith, before-le (j + 1) k (omega arith))))
 

@@ -13,7 +13,7 @@ module _ (g : ℕ → List ℕ) (l : List ℕ) (t : ℕ) where
   grown v h e n = rw (add-one, take-suc-set) (ap (λ (x : List ℕ). x ++ (v ∷ [])) e ∙ sym n)
 
   -- a list whose first t elements are right, for t its whole length
-  pub whole : (n : ℕ) → n ≤ t → t ≤ n → length l ≡ n → take t l ≡ g t → l ≡ g n
-  whole n a b e p =
+  pub whole : {n : ℕ} → n ≤ t → t ≤ n → length l ≡ n → take t l ≡ g t → l ≡ g n
+  whole {n} a b e p =
       let q : t ≡ n = omega arith in
       sym (take-all t l (omega arith)) ∙ p ∙ ap g q

@@ -38,7 +38,8 @@ pub be-split : (n m : ℕ) (l : List ℕ) (i : ℕ) → be (n + m) l i ≡ be n 
 unfolding be
 be-split n zero l i = rw (add-zero, pow-zero, mul-one) (omega arith)
 be-split n (suc m) l i =
-    let s : be n l i * 256 ^ suc m ≡ be n l i * 256 ^ m * 256 = ap (λ (k : ℕ). be n l i * k) (pow-suc 256 m) ∙ sym (mul-assoc (be n l i) (256 ^ m) 256) in
+    let s : be n l i * 256 ^ suc m ≡ be n l i * 256 ^ m * 256 = ap (λ (k : ℕ). be n l i * k) (pow-suc 256 m)
+    ∙ sym (mul-assoc (be n l i) (256 ^ m) 256) in
     let g : getD l (i + (n + m)) 0 ≡ getD l (i + n + m) 0 = rw add-assoc in
     rw add-suc (omega (arith, be-split n m l i))
 
@@ -69,7 +70,8 @@ be-some (suc w) l i k h g =
 
 pub be-zero : (w : ℕ) (l : List ℕ) (i : ℕ) → be w l i ≡ 0 → (k : ℕ) → k < w → getD l (i + k) 0 ≡ 0
 be-zero w l i e k h =
-    ⊎-elim (λ (z : getD l (i + k) 0 ≤ 0). omega arith) (λ (z : 0 < getD l (i + k) 0). absurd (omega (arith, be-some w l i k h z))) (le-or-lt _ 0)
+    ⊎-elim (λ (z : getD l (i + k) 0 ≤ 0). omega arith) (λ (z : 0 < getD l (i + k) 0). absurd (omega (arith, be-some w l i k h z)))
+    (le-or-lt _ 0)
 
 -- bytes of a part are bytes
 pub bytes-part : (l : List ℕ) (k n : ℕ) → Bytes l → Bytes (take n (drop k l))

@@ -28,11 +28,12 @@ take-in (suc j) m (suc n) (a ∷ l) h = take-in j m n l (omega arith)
 
 -- a part of a part is a part of the whole
 pub part-part : {s r t : RefT (List ℕ)} {k n j m : ℕ} → PartOf s k n r → PartOf r j m t → j + m ≤ n → PartOf s (k + j) m t
-part-part {s} {r} {t} {k} {n} {j} {m} p q h = record {
-  block = q .block ∙ p .block;
-  start = omega (arith, p .start, q .start);
-  bytes = q .bytes ∙ ap (λ (l : List ℕ). take m (drop j l)) (p .bytes) ∙ take-in j m n (drop k (s .now)) h ∙ ap (take m) (drop-drop j k (s .now));
-}
+part-part {s} {r} {t} {k} {n} {j} {m} p q h =
+    record {
+      block = q .block ∙ p .block;
+      start = omega (arith, p .start, q .start);
+      bytes = q .bytes ∙ ap (λ (l : List ℕ). take m (drop j l)) (p .bytes) ∙ take-in j m n (drop k (s .now)) h ∙ ap (take m) (drop-drop j k (s .now));
+    }
 
 -- how long a part is, where the whole has room for it
 pub length-part : (k n : ℕ) (l : List ℕ) → k + n ≤ length l → length (take n (drop k l)) ≡ n
@@ -83,7 +84,8 @@ module _ (s : RefT (List ℕ)) (at count w : ℕ) {t : Bool} (e : t ≡ fits (le
   uncut h p = rw (sym e ∙ h) p
 
 -- records that lie in the slice: what is handed out is their part
-pub records-in : (s r : RefT (List ℕ)) (at count w : ℕ) → at + count * w ≤ length (s .now) → RecordsOf s at count w r → PartOf s at (count * w) r
+pub records-in : (s r : RefT (List ℕ)) (at count w : ℕ) → at + count * w ≤ length (s .now) → RecordsOf s at count w r
+    → PartOf s at (count * w) r
 unfolding _if_else_
 records-in s r at count w h p = rw (le-leb (at + count * w) (length (s .now)) h) at p
 

@@ -18,14 +18,14 @@ unfolding _if_else_
 miss n b rest r e h = rw e h
 
 -- the table says something else than this row: this row does not apply, and the rows after it say it
-pub other : (n : ℕ) (b : Bool) (rest r : ℕ) → (n ≡ r → ⊥) → (n if b else rest) ≡ r → (b ≡ false) × (rest ≡ r)
+pub other : (n : ℕ) (b : Bool) (rest : ℕ) {r : ℕ} → (n ≡ r → ⊥) → (n if b else rest) ≡ r → (b ≡ false) × (rest ≡ r)
 unfolding _if_else_
-other n true rest r h e = absurd (h e)
-other n false rest r h e = (refl, e)
+other n true rest h e = absurd (h e)
+other n false rest h e = (refl, e)
 
 -- no row answers: not this one, and none after it
 pub pass : (n : ℕ) (b : Bool) (rest : ℕ) → 0 < n → (n if b else rest) ≡ 0 → (b ≡ false) × (rest ≡ 0)
-pass n b rest h e = other n b rest 0 (λ z. omega arith) e
+pass n b rest h e = other n b rest (λ z. omega arith) e
 
 pub eq-not : (a b : ℕ) → a ≡ b → not (eqb a b) ≡ false
 eq-not a b h = ap not (eq-eqb a b h)
@@ -67,4 +67,25 @@ pub and-second : (a b : Bool) → a ≡ true → b ≡ false → (a && b) ≡ fa
 and-second a b p q = rw (p, q)
 
 -- what a branch's fact says of a row's test, and what a row's test says of the table's answer
-pub ruleset rows = (hit, miss, lt-ltb, le-ltb, le-leb, lt-leb, eq-not, ne-not, eq-via, ne-via, eqb-via, neb-via, yes-via, no-via, not-via, eq-eqb, ne-eqb, and-both, and-first, and-second)
+pub ruleset rows = (
+  hit,
+  miss,
+  lt-ltb,
+  le-ltb,
+  le-leb,
+  lt-leb,
+  eq-not,
+  ne-not,
+  eq-via,
+  ne-via,
+  eqb-via,
+  neb-via,
+  yes-via,
+  no-via,
+  not-via,
+  eq-eqb,
+  ne-eqb,
+  and-both,
+  and-first,
+  and-second,
+)

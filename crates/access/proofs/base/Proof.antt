@@ -5,7 +5,7 @@ use Rattle.access.proofs.base.Statement.{statement}
 use Rattle.access.proofs.base.Tie as tie
 
 returns : tie.Need-returns
-returns c = records-in _ _ (c .before .before .before .args .f .base) (c .before .before .before .args .f .bases) (c .before .before .before .args .f .width) (c .before .before .before .pre .base) (c .part .ensures)
+returns c = records-in _ _ _ _ _ (c .before .before .before .pre .base) (c .part .ensures)
 
 pub base-spec : {M : Type 1} → statement M
 base-spec = tie.close (tie.spec

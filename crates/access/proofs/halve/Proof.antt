@@ -13,7 +13,8 @@ use Rattle.access.proofs.halve.Statement.{statement}
 use Rattle.access.proofs.halve.Tie as tie
 
 abbrev Inv-loop : tie.InvT-loop
-Inv-loop ids x from to w lo₀ hi₀ lo hi = (hi ≤ to) × (halving (keyOf (length x) ids) (number x) from to ≡ halving (keyOf (length x) ids) (number x) lo hi)
+Inv-loop ids x from to w lo₀ hi₀ lo hi =
+    (hi ≤ to) × (halving (keyOf (length x) ids) (number x) from to ≡ halving (keyOf (length x) ids) (number x) lo hi)
 
 abbrev μ-loop : tie.MeasureT-loop
 μ-loop ids x from to w lo₀ hi₀ lo hi = hi - lo
@@ -22,28 +23,47 @@ loop-holds : tie.Need-loop-holds Inv-loop μ-loop
 loop-holds c = (omega arith, refl)
 
 mul-compare : tie.Need-mul-compare Inv-loop μ-loop
-mul-compare c = omega (arith, small-product _ _ (let m : c .before .loop .lo + (c .before .loop .hi - c .before .loop .lo) / 2 < 2 ^ 32 = omega arith in m) (c .before .before .before .before .pre))
+mul-compare c =
+    let start = c .before .before .before .before in
+    omega (
+      arith,
+      small-product _ _ (let m : c .before .loop .lo + (c .before .loop .hi - c .before .loop .lo) / 2 < 2 ^ 32 = omega arith in m)
+          (start .pre),
+    )
 
 loop-again : tie.Need-loop-again Inv-loop μ-loop
 unfolding keyOf
 loop-again c =
-    let ids = now (c .before .before .before .before .before .before .before .args .ids) in
-    let x = now (c .before .before .before .before .before .before .before .args .x) in
-    (omega arith, turn-less (keyOf (length x) ids) (number x) _ _ _ _ _ (c .before .before .before .before .loop .inv .1) (c .before .before .before .loop-test .taken) refl (c .before .before .compare .ensures) (c .enum-told .given .1))
+    let at-loop-test = c .before .before .before in
+    let start = at-loop-test .before .before .before .before in
+    let ids = now (start .args .ids) in
+    let x = now (start .args .x) in (
+      omega arith,
+      turn-less _ _ _ _ _ (at-loop-test .before .loop .inv .1) (at-loop-test .loop-test .taken) refl
+          (c .before .before .compare .ensures) (c .enum-told .given .1),
+    )
 
 returns : tie.Need-returns Inv-loop μ-loop
 unfolding keyOf
 returns c =
-    let ids = now (c .before .before .before .before .before .before .before .args .ids) in
-    let x = now (c .before .before .before .before .before .before .before .args .x) in
-    sym (turn-equal (keyOf (length x) ids) (number x) _ _ _ _ _ (c .before .before .before .before .loop .inv .1) (c .before .before .before .loop-test .taken) refl (c .before .before .compare .ensures) (c .enum-told2 .given .1))
+    let at-loop-test = c .before .before .before in
+    let start = at-loop-test .before .before .before .before in
+    let ids = now (start .args .ids) in
+    let x = now (start .args .x) in
+    sym (turn-equal _ _ _ _ _ (at-loop-test .before .loop .inv .1) (at-loop-test .loop-test .taken) refl
+    (c .before .before .compare .ensures) (c .enum-told2 .given .1))
 
 loop-again-2 : tie.Need-loop-again-2 Inv-loop μ-loop
 unfolding keyOf
 loop-again-2 c =
-    let ids = now (c .before .before .before .before .before .before .before .args .ids) in
-    let x = now (c .before .before .before .before .before .before .before .args .x) in
-    (omega arith, turn-greater (keyOf (length x) ids) (number x) _ _ _ _ _ (c .before .before .before .before .loop .inv .1) (c .before .before .before .loop-test .taken) refl (c .before .before .compare .ensures) (c .enum-told3 .given .1))
+    let at-loop-test = c .before .before .before in
+    let start = at-loop-test .before .before .before .before in
+    let ids = now (start .args .ids) in
+    let x = now (start .args .x) in (
+      omega arith,
+      turn-greater _ _ _ _ _ (at-loop-test .before .loop .inv .1) (at-loop-test .loop-test .taken) refl
+          (c .before .before .compare .ensures) (c .enum-told3 .given .1),
+    )
 
 returns-2 : tie.Need-returns-2 Inv-loop μ-loop
 returns-2 c = sym (c .before .loop .inv .1 ∙ halving-none _ _ _ _ (c .loop-test .left))

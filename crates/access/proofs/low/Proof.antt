@@ -6,7 +6,7 @@ use Rattle.access.proofs.low.Statement.{statement}
 use Rattle.access.proofs.low.Tie as tie
 
 returns : tie.Need-returns
-returns c = lower-zero _ _ (c .if1 .taken)
+returns c = lower-zero _ (c .if1 .taken)
 
 returns-2 : tie.Need-returns-2
 returns-2 c = c .be32 .ensures ∙ lower-is _ _ (c .before .if1 .left)

@@ -5,7 +5,7 @@ use Rattle.access.proofs.oidf.Statement.{statement}
 use Rattle.access.proofs.oidf.Tie as tie
 
 returns : tie.Need-returns
-returns c = records-in _ _ (c .before .before .args .f .oidf) 256 4 (c .before .before .pre .fan) (c .part .ensures)
+returns c = records-in _ _ _ 256 4 (c .before .before .pre .fan) (c .part .ensures)
 
 pub oidf-spec : {M : Type 1} → statement M
 oidf-spec = tie.close (tie.spec

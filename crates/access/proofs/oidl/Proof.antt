@@ -5,7 +5,7 @@ use Rattle.access.proofs.oidl.Statement.{statement}
 use Rattle.access.proofs.oidl.Tie as tie
 
 returns : tie.Need-returns
-returns c = records-in _ _ (c .before .before .before .args .f .oidl) (c .before .before .before .args .f .commits) (c .before .before .before .args .f .width) (c .before .before .before .pre .ids) (c .part .ensures)
+returns c = records-in _ _ _ _ _ (c .before .before .before .pre .ids) (c .part .ensures)
 
 pub oidl-spec : {M : Type 1} → statement M
 oidl-spec = tie.close (tie.spec

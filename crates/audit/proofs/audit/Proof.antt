@@ -11,37 +11,37 @@ use Rattle.audit.proofs.audit.Statement.{statement}
 use Rattle.audit.proofs.audit.Tie as tie
 
 -- the list is not refused
-listed : (c : tie.Else1) → (let y = c .before .before .before .before .before in Listed 32 (y .args .chain .now) (y .args .list .now) (recordsOf 32 (y .args .list .now)))
-listed c = let y = c .before .before .before .before .before in list-listed 32 (y .args .chain .now) (y .args .list .now) (c .before .before .check .result) (c .before .before .check .ensures) (c .if1 .left)
+listed : (c : tie.Else1)
+    → (let start = c .before .before .before .before .before in
+    Listed 32 (start .args .chain .now) (start .args .list .now) (recordsOf 32 (start .args .list .now)))
+listed c = list-listed 32 _ _ (c .before .before .check .ensures) (c .if1 .left)
 
 -- the refusal of the pass is that of the opening
-goes : (c : tie.After-survey) → (let y = c .before .before .before .before .before .before in c .survey .result .refusal ≡ opened 32 (y .args .chain .now) (y .args .list .now))
+goes : (c : tie.After-survey)
+    → (let start = c .before .before .before .before .before .before in
+    c .survey .result .refusal ≡ opened 32 (start .args .chain .now) (start .args .list .now))
 goes c =
-    let y = c .before .before .before .before .before .before in
-    opened-pass 32 (y .args .chain .now) (y .args .list .now) (c .before .before .before .check .result) (c .survey .result .refusal) (c .before .before .before .check .ensures) (c .before .if1 .left) (c .survey .ensures .refusal)
+    opened-pass 32 _ _ (c .before .before .before .check .ensures) (c .before .if1 .left) (c .survey .ensures .refusal)
 
 returns : tie.Need-returns
 returns c =
-    let y = c .before .before .before .before .before .before in
     (c .refused .ensures
-    ∙ verify-refused 32 (y .args .chain .now) (y .args .list .now) (c .before .before .before .check .result)
-    (opened-list 32 (y .args .chain .now) (y .args .list .now) (c .before .before .before .check .result) (c .before .before .before .check .ensures) (c .before .if1 .taken)) (c .before .if1 .taken))
+    ∙ verify-refused 32 _ _ (opened-list 32 _ _ (c .before .before .before .check .ensures) (c .before .if1 .taken)) (c .before .if1 .taken))
 
 returns-2 : tie.Need-returns-2
 returns-2 c =
-    let y = c .before .before .before .before .before .before .before .before .before .before in
-    (c .refused2 .ensures ∙ verify-refused 32 (y .args .chain .now) (y .args .list .now) (c .before .before .before .before .survey .result .refusal) (goes (c .before .before .before .before)) (c .before .if2 .taken))
+    (c .refused2 .ensures ∙ verify-refused 32 _ _ (goes (c .before .before .before .before)) (c .before .if2 .taken))
 
 verify-from-requires : tie.Need-verify-from-requires
 verify-from-requires c κs =
-    let y = c .before .before .before .before .before .before .before .before .before .before .before .before .before .before .before in
-    let h = c .before .before .before .before .before .before .if2 .left in
-    (c .before .before .before .before .before .before .before .before .before .survey .ensures .tables (omega arith), ((refl, omega arith), no-files 32 (y .args .chain .now) (y .args .list .now)))
+    let at-survey = c .before .before .before .before .before .before .before .before .before in
+    (at-survey .survey .ensures .tables (omega arith), ((refl, omega arith), no-files 32 _ _))
 
 returns-3 : tie.Need-returns-3
 returns-3 c =
-    let y = c .before .before .before .before .before .before .before .before .before .before .before .before .before .before .before .before in
-    (verify-files 32 (y .args .chain .now) (y .args .list .now) (c .before .before .before .before .before .before .before .before .before .before .survey .result .refusal) (goes (c .before .before .before .before .before .before .before .before .before .before)) (c .before .before .before .before .before .before .before .if2 .left) (c .verify-from .result) (c .verify-from .ensures))
+    let at-if2 = c .before .before .before .before .before .before .before in
+    let at-survey = at-if2 .before .before .before in
+    (verify-files 32 _ _ (goes at-survey) (at-if2 .if2 .left) (c .verify-from .ensures))
 
 pub audit-spec : {M : Type 1} → statement M
 audit-spec =

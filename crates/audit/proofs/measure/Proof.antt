@@ -8,15 +8,15 @@ use Rattle.audit.proofs.measure.Tie as tie
 
 returns : tie.Need-returns
 unfolding lengthOf lengthBy
-returns c = rw (eq-eqb (c .before .args .h) cap (c .if1 .taken))
+returns c = rw (eq-eqb _ cap (c .if1 .taken))
 
 returns-2 : tie.Need-returns-2
 unfolding lengthOf lengthBy
-returns-2 c = rw (ne-eqb (c .before .before .args .h) cap (c .before .if1 .left), c .if2 .taken)
+returns-2 c = rw (ne-eqb _ cap (c .before .if1 .left), c .if2 .taken)
 
 returns-3 : tie.Need-returns-3
 unfolding lengthOf lengthBy
-returns-3 c = rw (ne-eqb (c .before .before .args .h) cap (c .before .if1 .left))
+returns-3 c = rw (ne-eqb _ cap (c .before .if1 .left))
 
 pub measure-spec : {M : Type 1} → statement M
 measure-spec = tie.close (tie.spec returns returns-2 (λ c. search needs) returns-3)

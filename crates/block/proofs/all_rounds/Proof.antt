@@ -8,8 +8,10 @@ use Rattle.block.proofs.all_rounds.Tie as tie
 returns : tie.Need-returns
 unfolding rounds
 returns c =
-    let h = c .before .before .before .before .args .h in
-    c .some-rounds4 .ensures h (c .before .some-rounds3 .ensures h (c .before .before .some-rounds2 .ensures h (c .before .before .before .some-rounds .ensures h refl)))
+    let at-some-rounds = c .before .before .before in
+    let h = at-some-rounds .before .args .h in
+    c .some-rounds4 .ensures h
+    (c .before .some-rounds3 .ensures h (c .before .before .some-rounds2 .ensures h (at-some-rounds .some-rounds .ensures h refl)))
 
 pub all-rounds-spec : {M : Type 1} → statement M
 all-rounds-spec =

@@ -26,13 +26,12 @@ compress-block-requires c κs = simp (length-take, length-drop) (omega arith)
 loop-again : tie.Need-loop-again Inv-loop μ-loop
 unfolding block
 loop-again c =
-    let l = c .before .before .before .loop in
-    let s = c .before .before .before .before .before .args .s .now in
+    let at-loop = c .before .before .before in
+    let l = at-loop .loop in
+    let s = at-loop .before .before .args .s .now in
     let q : 64 * l .i + 64 - 64 * l .i ≡ 64 = omega arith in (
       omega arith,
-      c .compress-block .ensures
-          ∙ ap (λ (k : ℕ). compress (l .w) (take k (drop (64 * l .i) s))) q
-          ∙ stepped compress _ s _ (l .i) (l .inv .1),
+      c .compress-block .ensures ∙ ap (λ (k : ℕ). compress (l .w) (take k (drop (64 * l .i) s))) q ∙ stepped compress _ s _ (l .inv .1),
     )
 
 returns : tie.Need-returns Inv-loop μ-loop

@@ -7,14 +7,16 @@ use Rattle.block.proofs.compress_block.Tie as tie
 returns : tie.Need-returns
 unfolding compress sums
 returns c =
+    let at-wrapping-add-u322 = c .before .before .before in
+    let at-all-rounds = at-wrapping-add-u322 .before .before in
     simp (
       c .wrapping-add-u325 .ensures,
       c .before .wrapping-add-u324 .ensures,
       c .before .before .wrapping-add-u323 .ensures,
-      c .before .before .before .wrapping-add-u322 .ensures,
-      c .before .before .before .before .wrapping-add-u32 .ensures,
-      c .before .before .before .before .before .all-rounds .ensures,
-      c .before .before .before .before .before .before .before .schedule-of .ensures,
+      at-wrapping-add-u322 .wrapping-add-u322 .ensures,
+      at-wrapping-add-u322 .before .wrapping-add-u32 .ensures,
+      at-all-rounds .all-rounds .ensures,
+      at-all-rounds .before .before .schedule-of .ensures,
     )
 
 pub compress-block-spec : {M : Type 1} → statement M

@@ -21,8 +21,11 @@ loop-holds c = (search needs, refl, refl)
 
 loop-again : tie.Need-loop-again Inv-loop μ-loop
 loop-again c =
-    let l = c .before .before .loop in
-    (omega arith, simp length-set (l .inv .1), stored _ _ _ _ (omega arith) (l .inv .2) (c .be32 .ensures ∙ next-low _ _ _ (c .before .loop-test .taken)))
+    let l = c .before .before .loop in (
+      omega arith,
+      simp length-set (l .inv .1),
+      stored _ _ _ (omega arith) (l .inv .2) (c .be32 .ensures ∙ next-low _ _ _ (c .before .loop-test .taken)),
+    )
 
 returns : tie.Need-returns Inv-loop μ-loop
 returns c =

@@ -7,15 +7,17 @@ use Rattle.block.proofs.one_round.Tie as tie
 returns : tie.Need-returns
 unfolding round
 returns c =
+    let at-constant = c .before .before .before in
+    let at-mix = at-constant .before .before .before in
     simp (
       c .rotate2 .ensures,
       c .before .wrapping-add-u324 .ensures,
       c .before .before .wrapping-add-u323 .ensures,
-      c .before .before .before .constant .ensures,
-      c .before .before .before .before .wrapping-add-u322 .ensures,
-      c .before .before .before .before .before .wrapping-add-u32 .ensures,
-      c .before .before .before .before .before .before .mix .ensures,
-      c .before .before .before .before .before .before .before .rotate .ensures,
+      at-constant .constant .ensures,
+      at-constant .before .wrapping-add-u322 .ensures,
+      at-constant .before .before .wrapping-add-u32 .ensures,
+      at-mix .mix .ensures,
+      at-mix .before .rotate .ensures,
     )
 
 pub one-round-spec : {M : Type 1} → statement M

@@ -21,11 +21,15 @@ loop-holds c = (omega arith, omega arith, search needs, c .loaded .ensures)
 
 loop-again : tie.Need-loop-again Inv-loop μ-loop
 loop-again c =
-    let l = c .before .before .loop in
-    (omega arith, omega arith, simp length-set (l .inv .2), stored _ _ _ _ (omega arith) (l .inv .3) (c .rotate .ensures ∙ next-high _ _ _ (l .inv .0)))
+    let l = c .before .before .loop in (
+      omega arith,
+      omega arith,
+      simp length-set (l .inv .2),
+      stored _ _ _ (omega arith) (l .inv .3) (c .rotate .ensures ∙ next-high _ _ _ (l .inv .0)),
+    )
 
 returns : tie.Need-returns Inv-loop μ-loop
-returns c = let l = c .before .loop in whole (schedule _) _ (l .t) 80 (omega arith) (l .inv .1) (l .inv .2) (l .inv .3)
+returns c = let l = c .before .loop in whole (schedule _) _ _ (omega arith) (l .inv .1) (l .inv .2) (l .inv .3)
 
 pub schedule-of-spec : {M : Type 1} → statement M
 schedule-of-spec =

@@ -21,7 +21,7 @@ one-round-requires : tie.Need-one-round-requires Inv-loop μ-loop
 one-round-requires c κs = tt
 
 loop-again : tie.Need-loop-again Inv-loop μ-loop
-loop-again c = (omega arith, omega arith, λ h₀ e. c .one-round .ensures ∙ turned _ _ _ _ (c .before .before .before .loop .inv .2 h₀ e))
+loop-again c = (omega arith, omega arith, λ h₀ e. c .one-round .ensures ∙ turned _ _ _ (c .before .before .before .loop .inv .2 h₀ e))
 
 returns : tie.Need-returns Inv-loop μ-loop
 returns c =

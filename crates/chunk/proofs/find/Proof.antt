@@ -1,7 +1,6 @@
 -- `chunk::find` meets its contract.
 use Prim.Native.Nat.{ℕ}
 use mathlib.Core.Path.{ap₂, _∙_}
-use denote.Ref.{now}
 use Rattle.chunk.specs.Index.{chunkAt}
 use Rattle.chunk.specs.declared.Chunk.the-variants.{At}
 use Rattle.chunk.proofs.Entries.{chunk-absent, chunk-at}
@@ -11,15 +10,14 @@ use Rattle.chunk.proofs.find.Tie as tie
 
 returns : tie.Need-returns
 returns c =
-    let a = c .before .before .before .before .args in
-    chunk-absent (now (a .s)) (a .x) _ _ (c .before .before .count .ensures .0) (c .before .seek .ensures) (c .if1 .taken)
+    chunk-absent _ _ (c .before .before .count .ensures .0) (c .before .seek .ensures) (c .if1 .taken)
 
 returns-2 : tie.Need-returns-2
 unfolding chunkAt
 returns-2 c =
-    let a = c .before .before .before .before .before .before .args in
+    let at-if1 = c .before .before in
     ap₂ (λ (x y : ℕ). At (record { start = x; end = y })) (c .before .offset .ensures) (c .offset2 .ensures)
-    ∙ chunk-at (now (a .s)) (a .x) _ _ (c .before .before .before .before .count .ensures .0) (c .before .before .before .seek .ensures) (c .before .before .if1 .left)
+    ∙ chunk-at _ _ (at-if1 .before .before .count .ensures .0) (at-if1 .before .seek .ensures) (at-if1 .if1 .left)
 
 pub find-spec : {M : Type 1} → statement M
 find-spec =

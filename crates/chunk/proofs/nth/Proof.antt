@@ -1,5 +1,4 @@
 -- `chunk::nth` meets its contract.
-use denote.Ref.{now}
 use Rattle.chunk.specs.Index.{entryOf}
 use Rattle.chunk.proofs.Entries.{nth-refused, nth-past, nth-at}
 use borrow.Author.Needs.{needs}
@@ -7,19 +6,20 @@ use Rattle.chunk.proofs.nth.Statement.{statement}
 use Rattle.chunk.proofs.nth.Tie as tie
 
 returns : tie.Need-returns
-returns c = let a = c .before .before .before .before .args in nth-refused (now (a .s)) (a .k) _ (c .before .before .check .ensures) (c .if1 .taken)
+returns c = nth-refused _ _ (c .before .before .check .ensures) (c .if1 .taken)
 
 returns-2 : tie.Need-returns-2
 returns-2 c =
-    let a = c .before .before .before .before .before .before .args in
-    nth-past (now (a .s)) (a .k) _ (c .before .before .before .before .check .ensures) (c .before .before .if1 .left) _ (c .before .count .ensures .0) (c .if2 .taken)
+    let at-if1 = c .before .before in
+    nth-past _ _ (at-if1 .before .before .check .ensures) (at-if1 .if1 .left) (c .before .count .ensures .0) (c .if2 .taken)
 
 returns-3 : tie.Need-returns-3
 unfolding entryOf
 returns-3 c =
-    let a = c .before .before .before .before .before .before .before .before .before .args in
+    let at-if2 = c .before .before .before in
+    let at-if1 = at-if2 .before .before in
     rw (c .offset2 .ensures, c .before .offset .ensures, c .before .before .id .ensures)
-    (nth-at (now (a .s)) (a .k) _ (c .before .before .before .before .before .before .before .check .ensures) (c .before .before .before .before .before .if1 .left) _ (c .before .before .before .before .count .ensures .0) (c .before .before .before .if2 .left))
+    (nth-at _ _ (at-if1 .before .before .check .ensures) (at-if1 .if1 .left) (at-if2 .before .count .ensures .0) (at-if2 .if2 .left))
 
 pub nth-spec : {M : Type 1} → statement M
 nth-spec =

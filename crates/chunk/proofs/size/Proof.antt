@@ -10,7 +10,9 @@ returns-2 : tie.Need-returns-2
 returns-2 c = omega (arith, ap sizeOf (c .before .before .before .c .given .1))
 
 returns-3 : tie.Need-returns-3
-returns-3 c = omega (arith, ap sizeOf (c .before .before .before .before .c .given .1))
+returns-3 c =
+    let at-c = c .before .before .before .before in
+    omega (arith, ap sizeOf (at-c .c .given .1))
 
 pub size-spec : {M : Type 1} → statement M
 size-spec = tie.close (tie.spec

@@ -12,11 +12,14 @@ use Rattle.commit.proofs.commit_in.Statement.{statement}
 use Rattle.commit.proofs.commit_in.Tie as tie
 
 -- the row is there
-there : (c : tie.Else1) → (c .before .before .before .args .w ≡ 20) × (c .before .before .before .args .pos .0 * (c .before .before .before .args .w + 16) + (c .before .before .before .args .w + 16) ≤ length (now (c .before .before .before .args .cdat)))
-there c = row-there (c .before .before .before .args .w) (length (now (c .before .before .before .args .cdat))) (c .before .before .before .args .pos .0) (zero-of (c .before .row-rule .ensures) (c .if1 .left))
+there : (c : tie.Else1)
+    → (c .before .before .before .args .w ≡ 20)
+    × (c .before .before .before .args .pos .0 * (c .before .before .before .args .w + 16) + (c .before .before .before .args .w + 16)
+    ≤ length (now (c .before .before .before .args .cdat)))
+there c = row-there _ _ _ (zero-of (c .before .row-rule .ensures) (c .if1 .left))
 
 returns : tie.Need-returns
-returns c = ap Refused (c .at .ensures) ∙ commit-out _ _ _ _ (c .before .before .row-rule .ensures) (c .before .if1 .taken)
+returns c = ap Refused (c .at .ensures) ∙ commit-out _ _ _ (c .before .before .row-rule .ensures) (c .before .if1 .taken)
 
 add-fields : tie.Need-add-fields
 add-fields c = omega (arith, there c)
@@ -31,7 +34,7 @@ fields-requires : tie.Need-fields-requires
 fields-requires c κs = omega (arith, there c)
 
 returns-2 : tie.Need-returns-2
-returns-2 c = ap Is (c .fields .ensures) ∙ commit-in _ _ _ _ (c .before .before .row-rule .ensures) (c .before .if1 .left)
+returns-2 c = ap Is (c .fields .ensures) ∙ commit-in _ _ _ (c .before .before .row-rule .ensures) (c .before .if1 .left)
 
 pub commit-in-spec : {M : Type 1} → statement M
 commit-in-spec =

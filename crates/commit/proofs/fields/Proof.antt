@@ -7,7 +7,15 @@ use Rattle.commit.proofs.fields.Tie as tie
 returns : tie.Need-returns
 unfolding commitOf
 returns c =
-    simp (c .be324 .ensures, c .before .be323 .ensures, c .before .before .parent-edge2 .ensures, c .before .before .before .be322 .ensures, c .before .before .before .before .parent-edge .ensures, c .before .before .before .before .before .be32 .ensures)
+    let at-be322 = c .before .before .before in
+    simp (
+      c .be324 .ensures,
+      c .before .be323 .ensures,
+      c .before .before .parent-edge2 .ensures,
+      at-be322 .be322 .ensures,
+      at-be322 .before .parent-edge .ensures,
+      at-be322 .before .before .be32 .ensures,
+    )
 
 pub fields-spec : {M : Type 1} → statement M
 fields-spec =

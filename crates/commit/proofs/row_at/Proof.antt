@@ -12,8 +12,10 @@ use Rattle.commit.proofs.row_at.Statement.{statement}
 use Rattle.commit.proofs.row_at.Tie as tie
 
 -- the row's fields lie in the part
-room : (c : tie.After-cdat) → c .before .before .args .i * (c .before .before .args .f .width + 16) + c .before .before .args .f .width + 16 ≤ length (now (c .cdat .result))
-room c = let z = c .before .before in fields-room (now (z .args .s)) (now (c .cdat .result)) (z .args .f) (z .args .i) (z .pre .0) (c .cdat .ensures .bytes) (z .pre .1)
+room : (c : tie.After-cdat)
+    → c .before .before .args .i * (c .before .before .args .f .width + 16) + c .before .before .args .f .width + 16
+    ≤ length (now (c .cdat .result))
+room c = fields-room _ (c .before .before .pre .0) (c .cdat .ensures .bytes) (c .before .before .pre .1)
 
 mul-fields : tie.Need-mul-fields
 mul-fields c = omega (arith, room c)
@@ -25,7 +27,11 @@ fields-requires : tie.Need-fields-requires
 fields-requires c κs = omega (arith, room c)
 
 returns : tie.Need-returns
-returns c = c .fields .ensures ∙ ap (λ (p : List ℕ). commitOf p (c .before .before .before .args .i * (c .before .before .before .args .f .width + 16) + c .before .before .before .args .f .width)) (c .before .cdat .ensures .bytes)
+returns c =
+    let start = c .before .before .before in
+    c .fields .ensures
+    ∙ ap (λ (p : List ℕ). commitOf p (start .args .i * (start .args .f .width + 16) + start .args .f .width))
+    (c .before .cdat .ensures .bytes)
 
 pub row-at-spec : {M : Type 1} → statement M
 row-at-spec =

@@ -9,7 +9,7 @@ mul-result : tie.Need-mul-result
 mul-result c = omega (arith, square (c .args .k) (c .args .z) (omega arith) (omega arith))
 
 returns : tie.Need-returns
-returns c = (refl, square (c .args .k) (c .args .z) (omega arith) (omega arith))
+returns c = (refl, square _ _ (omega arith) (omega arith))
 
 pub at-spec : {M : Type 1} → statement M
 at-spec = tie.close (tie.spec

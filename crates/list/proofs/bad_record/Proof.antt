@@ -18,7 +18,9 @@ loop-holds : tie.Need-loop-holds Inv-loop μ-loop
 loop-holds c = (omega arith, search searching)
 
 record-rule-requires : tie.Need-record-rule-requires Inv-loop μ-loop
-record-rule-requires c κs = record-room _ _ _ _ (c .loop-test .taken) (c .before .before .before .pre .0) (c .before .before .before .pre .1)
+record-rule-requires c κs =
+    let start = c .before .before .before in
+    record-room _ _ _ _ (c .loop-test .taken) (start .pre .0) (start .pre .1)
 
 returns : tie.Need-returns Inv-loop μ-loop
 returns c = search searching

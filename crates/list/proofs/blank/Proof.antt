@@ -8,7 +8,8 @@ use Rattle.list.proofs.blank.Statement.{statement}
 use Rattle.list.proofs.blank.Tie as tie
 
 returns : tie.Need-returns
-returns c = c .zero .ensures ∙ ap (λ (n : ℕ). eqb n 0) (claim-number (c .before .before .before .args .list) (c .before .claim-at .result) (c .before .before .before .args .z) (c .before .before .before .args .k) (c .before .before .before .pre) (c .before .claim-at .ensures))
+returns c =
+    c .zero .ensures ∙ ap (λ (n : ℕ). eqb n 0) (claim-number _ _ _ _ (c .before .before .before .pre) (c .before .claim-at .ensures))
 
 pub blank-spec : {M : Type 1} → statement M
 blank-spec = tie.close (tie.spec

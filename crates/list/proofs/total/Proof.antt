@@ -20,12 +20,18 @@ unfolding before
 loop-holds c = (omega arith, refl, omega arith)
 
 add-sum : tie.Need-add-sum Inv-loop μ-loop
-add-sum c = omega (arith, c .length-at .ok, c .before .before .loop .inv, c .before .before .before .before .pre)
+add-sum c =
+    let at-loop = c .before .before in
+    omega (arith, c .length-at .ok, at-loop .loop .inv, at-loop .before .before .pre)
 
 loop-again : tie.Need-loop-again Inv-loop μ-loop
 loop-again c =
-    let l = c .before .before .loop in
-    (omega arith, omega (arith, before-next (lengthAt (c .before .before .before .before .args .z) (c .before .before .before .before .args .list .now)) (l .k), c .length-at .ensures), omega (arith, c .length-at .ok, l .inv))
+    let start = c .before .before .before .before in
+    let l = c .before .before .loop in (
+      omega arith,
+      omega (arith, before-next (lengthAt (start .args .z) (start .args .list .now)) (l .k), c .length-at .ensures),
+      omega (arith, c .length-at .ok, l .inv),
+    )
 
 returns : tie.Need-returns Inv-loop μ-loop
 returns c = let l = c .before .loop in let q : l .k ≡ c .before .before .before .args .n = omega arith in rw q at (l .inv .1)

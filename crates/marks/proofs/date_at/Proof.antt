@@ -2,7 +2,6 @@
 use Prim.Native.Nat.{ℕ}
 use mathlib.Core.Path.{ap, _∙_}
 use native.Mathlib.Omega.{arith}
-use denote.Ref.{now}
 use Rattle.fit.proofs.Fitting.{answered}
 use Rattle.marks.specs.Marks.{run}
 use Rattle.marks.specs.declared.Mark.the-variants.{At, Refused}
@@ -13,20 +12,18 @@ use Rattle.marks.proofs.date_at.Statement.{statement}
 use Rattle.marks.proofs.date_at.Tie as tie
 
 returns : tie.Need-returns
-returns c = let a = c .before .before .before .before .args in ap Refused (c .at .ensures) ∙ date-out (now (a .s)) (a .f) (a .pos .0) _ (c .before .before .ask .ensures) (c .before .if1 .taken)
+returns c = ap Refused (c .at .ensures) ∙ date-out _ _ _ (c .before .before .ask .ensures) (c .before .if1 .taken)
 
 field-requires : tie.Need-field-requires
 field-requires c κs =
-    let a = c .before .before .before .args in
-    field-fits (now (a .s)) (a .f) (a .pos .0) (answered (now (a .s)) (a .f) (a .f .commits) (a .pos .0) _ (c .before .ask .ensures) (c .if1 .left)) 8 (omega arith) (omega arith)
+    field-fits (answered _ _ _ _ (c .before .ask .ensures) (c .if1 .left)) 8 (omega arith) (omega arith)
 
 add-end : tie.Need-add-end
 add-end c =
-    let a = c .before .before .before .before .args in
-    omega (arith, field-room (now (a .s)) (a .f) (a .pos .0) (answered (now (a .s)) (a .f) (a .f .commits) (a .pos .0) _ (c .before .before .ask .ensures) (c .before .if1 .left)) 8 8 (omega arith))
+    omega (arith, field-room (answered _ _ _ _ (c .before .before .ask .ensures) (c .before .if1 .left)) 8 8 (omega arith))
 
 returns-2 : tie.Need-returns-2
-returns-2 c = let a = c .before .before .before .before .args in ap (λ (n : ℕ). At (run n 8)) (c .field .ensures) ∙ date-in (now (a .s)) (a .f) (a .pos .0) _ (c .before .before .ask .ensures) (c .before .if1 .left)
+returns-2 c = ap (λ (n : ℕ). At (run n 8)) (c .field .ensures) ∙ date-in _ _ _ (c .before .before .ask .ensures) (c .before .if1 .left)
 
 pub date-at-spec : {M : Type 1} → statement M
 date-at-spec =

@@ -11,20 +11,22 @@ use Rattle.marks.proofs.place.Tie as tie
 
 field-requires : tie.Need-field-requires
 field-requires c κs =
-    let z = c .before .before .before in
-    let a = z .args in
-    field-fits (now (a .s)) (a .f) (a .pos .0) (step-word (now (a .s)) (a .f) (a .pos .0) (a .phase) (z .pre .0) (λ i. c .before .before .shared-slice-known .given i .fits) (z .pre .1) .0) 0 (omega arith) (omega arith)
+    let start = c .before .before .before in
+    field-fits (step-word _ _ _ _ (λ i. c .before .before .shared-slice-known .given i .fits) (start .pre .1) .0) 0
+    (omega arith) (omega arith)
 
 second-requires : tie.Need-second-requires
-second-requires c κs = let z = c .before .before .before in subst (λ (s : Phase). Meets (now (z .args .s)) (z .args .f) (z .args .pos .0) s) (c .enum-told2 .given .1) (z .pre)
+second-requires c κs =
+    let start = c .before .before .before in
+    subst (λ (s : Phase). Meets (now (start .args .s)) (start .args .f) (start .args .pos .0) s) (c .enum-told2 .given .1) (start .pre)
 
 edge-requires : tie.Need-edge-requires
 unfolding placeOf
 edge-requires c κs =
-    let z = c .before .before .before .before in
-    let a = z .args in
-    let m = subst (λ (s : Phase). Meets (now (a .s)) (a .f) (a .pos .0) s) (c .before .phase .given .1) (z .pre) in
-    let w = step-word (now (a .s)) (a .f) (a .pos .0) _ (m .0) (λ i. c .before .before .before .shared-slice-known .given i .fits) (m .1) .1 in
+    let start = c .before .before .before .before in
+    let a = start .args in
+    let m = subst (λ (s : Phase). Meets (now (a .s)) (a .f) (a .pos .0) s) (c .before .phase .given .1) (start .pre) in
+    let w = step-word (now (a .s)) (a .f) (a .pos .0) _ (λ i. c .before .before .before .shared-slice-known .given i .fits) (m .1) .1 in
     omega (arith, w .inside)
 
 returns : tie.Need-returns

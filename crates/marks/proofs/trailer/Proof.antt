@@ -1,6 +1,5 @@
 -- `marks::trailer` meets its contract.
 use mathlib.Core.Path.{ap, _∙_}
-use denote.Ref.{now}
 use Rattle.marks.specs.declared.Checked.the-variants.{Refused}
 use Rattle.marks.proofs.Ways.{check-large, check-small, check-wrong, check-right}
 use borrow.Author.Needs.{needs}
@@ -8,16 +7,20 @@ use Rattle.marks.proofs.trailer.Statement.{statement}
 use Rattle.marks.proofs.trailer.Tie as tie
 
 returns : tie.Need-returns
-returns c = ap Refused (c .at .ensures) ∙ check-large (now (c .before .before .before .args .s)) (c .before .if1 .taken)
+returns c = ap Refused (c .at .ensures) ∙ check-large _ (c .before .if1 .taken)
 
 returns-2 : tie.Need-returns-2
-returns-2 c = ap Refused (c .at2 .ensures) ∙ check-small (now (c .before .before .before .before .args .s)) (c .before .before .if1 .left) (c .before .if2 .taken)
+returns-2 c = ap Refused (c .at2 .ensures) ∙ check-small _ (c .before .before .if1 .left) (c .before .if2 .taken)
 
 returns-3 : tie.Need-returns-3
-returns-3 c = check-wrong (now (c .before .before .before .before .before .args .s)) (c .before .before .before .if1 .left) (c .before .before .if2 .left) _ (c .before .sum-in .ensures) (c .if3 .taken)
+returns-3 c =
+    let at-if2 = c .before .before in
+    check-wrong _ (at-if2 .before .if1 .left) (at-if2 .if2 .left) (c .before .sum-in .ensures) (c .if3 .taken)
 
 returns-4 : tie.Need-returns-4
-returns-4 c = check-right (now (c .before .before .before .before .before .args .s)) (c .before .before .before .if1 .left) (c .before .before .if2 .left) _ (c .before .sum-in .ensures) (c .if3 .left)
+returns-4 c =
+    let at-if2 = c .before .before in
+    check-right _ (at-if2 .before .if1 .left) (at-if2 .if2 .left) (c .before .sum-in .ensures) (c .if3 .left)
 
 pub trailer-spec : {M : Type 1} → statement M
 trailer-spec =

@@ -21,31 +21,54 @@ unfolding hashOf
 loop-holds c = (search needs, refl, refl)
 
 shared-slice-read-digit : tie.Need-shared-slice-read-digit Inv-loop μ-loop
-shared-slice-read-digit c = omega (arith, c .before .before .before .before .pre .size)
+shared-slice-read-digit c =
+    let start = c .before .before .before .before in
+    omega (arith, start .pre .size)
 
 shared-slice-read-digit-2 : tie.Need-shared-slice-read-digit-2 Inv-loop μ-loop
-shared-slice-read-digit-2 c = omega (arith, c .before .before .before .before .before .before .pre .size)
+shared-slice-read-digit-2 c =
+    let start = c .before .before .before .before .before .before in
+    omega (arith, start .pre .size)
 
 mul-out : tie.Need-mul-out Inv-loop μ-loop
 mul-out c =
-    let z = c .before .before .before .before .before .before .before in
-    let i = c .before .before .before .before .before .loop .i in
-    omega (arith, c .before .before .digit .ensures, c .digit2 .ensures, pair-low (z .args .s .now) i (z .pre) (c .before .before .before .before .loop-test .taken), pair-high (z .args .s .now) i (z .pre) (c .before .before .before .before .loop-test .taken))
+    let at-loop-test = c .before .before .before .before in
+    let start = at-loop-test .before .before .before in
+    let i = at-loop-test .before .loop .i in
+    omega (
+      arith,
+      c .before .before .digit .ensures,
+      c .digit2 .ensures,
+      pair-low i (start .pre) (at-loop-test .loop-test .taken),
+      pair-high i (start .pre) (at-loop-test .loop-test .taken),
+    )
 
 add-out : tie.Need-add-out Inv-loop μ-loop
 add-out c =
-    let z = c .before .before .before .before .before .before .before in
-    let i = c .before .before .before .before .before .loop .i in
-    omega (arith, c .before .before .digit .ensures, c .digit2 .ensures, pair-low (z .args .s .now) i (z .pre) (c .before .before .before .before .loop-test .taken), pair-high (z .args .s .now) i (z .pre) (c .before .before .before .before .loop-test .taken))
+    let at-loop-test = c .before .before .before .before in
+    let start = at-loop-test .before .before .before in
+    let i = at-loop-test .before .loop .i in
+    omega (
+      arith,
+      c .before .before .digit .ensures,
+      c .digit2 .ensures,
+      pair-low i (start .pre) (at-loop-test .loop-test .taken),
+      pair-high i (start .pre) (at-loop-test .loop-test .taken),
+    )
 
 loop-again : tie.Need-loop-again Inv-loop μ-loop
 unfolding hashOf
 loop-again c =
-    let l = c .before .before .before .before .before .loop in
-    (omega arith, simp length-set (l .inv .1), grown (hashOf (c .before .before .before .before .before .before .before .args .s .now)) (l .out) (l .i) (16 * c .before .before .digit .result + c .digit2 .result) (omega arith) (l .inv .2) (rw (c .before .before .digit .ensures .0, c .digit2 .ensures .0)))
+    let at-loop = c .before .before .before .before .before in
+    let l = at-loop .loop in (
+      omega arith,
+      simp length-set (l .inv .1),
+      grown (hashOf (at-loop .before .before .args .s .now)) (l .out) (l .i) (16 * c .before .before .digit .result + c .digit2 .result)
+          (omega arith) (l .inv .2) (rw (c .before .before .digit .ensures .0, c .digit2 .ensures .0)),
+    )
 
 returns : tie.Need-returns Inv-loop μ-loop
-returns c = let l = c .before .loop in whole (hashOf _) _ (l .i) 20 (omega arith) (l .inv .0) (l .inv .1) (l .inv .2)
+returns c = let l = c .before .loop in whole (hashOf _) _ _ (omega arith) (l .inv .0) (l .inv .1) (l .inv .2)
 
 pub claimed-spec : {M : Type 1} → statement M
 claimed-spec =

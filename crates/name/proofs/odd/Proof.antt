@@ -21,11 +21,17 @@ loop-holds c = (omega arith, search searching)
 
 returns : tie.Need-returns Inv-loop μ-loop
 returns c =
-    first-stop _ _ _ (c .before .before .before .before .loop .inv .1) (c .before .before .before .loop-test .taken) (misfit-yes _ _ _ (c .before .digit .ensures .0) (c .if1 .taken))
+    let at-loop-test = c .before .before .before in
+    first-stop _ _ _ (at-loop-test .before .loop .inv .1) (at-loop-test .loop-test .taken)
+    (misfit-yes _ _ _ (c .before .digit .ensures .0) (c .if1 .taken))
 
 loop-again : tie.Need-loop-again Inv-loop μ-loop
 loop-again c =
-    (omega arith, first-step _ _ _ (c .before .before .before .before .loop .inv .1) (c .before .before .before .loop-test .taken) (misfit-no _ _ _ (c .before .digit .ensures .0) (c .if1 .left)))
+    let at-loop-test = c .before .before .before in (
+      omega arith,
+      first-step _ _ _ (at-loop-test .before .loop .inv .1) (at-loop-test .loop-test .taken)
+          (misfit-no _ _ _ (c .before .digit .ensures .0) (c .if1 .left)),
+    )
 
 returns-2 : tie.Need-returns-2 Inv-loop μ-loop
 returns-2 c = search searching

@@ -16,9 +16,10 @@ claimed-requires c κs = hexed 20 _ (sym (c .before .kind .ensures) ∙ c .if1 .
 returns : tie.Need-returns
 unfolding nameOf claimOf
 returns c =
-    let l = now (c .before .before .before .before .args .s) in
-    let e : eqb (kindOf 20 l) 1 ≡ true = eq-eqb _ _ (sym (c .before .before .kind .ensures) ∙ c .before .if1 .taken) in
-    named (c .before .before .kind .ensures) (c .claimed .ensures ∙ ap (λ (t : Bool). claimOf t l) (sym e))
+    let at-kind = c .before .before in
+    let l = now (at-kind .before .before .args .s) in
+    let e : eqb (kindOf 20 l) 1 ≡ true = eq-eqb _ _ (sym (at-kind .kind .ensures) ∙ c .before .if1 .taken) in
+    named (at-kind .kind .ensures) (c .claimed .ensures ∙ ap (λ (t : Bool). claimOf t l) (sym e))
 
 returns-2 : tie.Need-returns-2
 unfolding nameOf claimOf

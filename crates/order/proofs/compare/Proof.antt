@@ -20,30 +20,34 @@ loop-holds c = (omega arith, refl)
 
 returns : tie.Need-returns Inv-loop μ-loop
 returns c =
-    let a = c .before .before .before .before .before .before .before .before .args in
-    compare-less (a .x .now) (a .s .now) (a .at) _ _ (c .before .before .before .before .before .reach .ensures) (c .before .before .before .before .loop .inv .1)
-    (λ i. c .before .before .shared-slice-known3 .given i .fits) (λ i. c .before .shared-slice-known4 .given i .fits) (omega arith) (c .if1 .taken)
+    let at-loop = c .before .before .before .before in
+    compare-less _ _ _ _ (at-loop .before .reach .ensures) (at-loop .loop .inv .1)
+    (λ i. c .before .before .shared-slice-known3 .given i .fits) (λ i. c .before .shared-slice-known4 .given i .fits) (omega arith)
+    (c .if1 .taken)
 
 returns-2 : tie.Need-returns-2 Inv-loop μ-loop
 returns-2 c =
-    let a = c .before .before .before .before .before .before .before .before .before .args in
-    compare-greater (a .x .now) (a .s .now) (a .at) _ _ (c .before .before .before .before .before .before .reach .ensures) (c .before .before .before .before .before .loop .inv .1)
-    (λ i. c .before .before .before .shared-slice-known3 .given i .fits) (λ i. c .before .before .shared-slice-known4 .given i .fits) (omega arith) (c .if2 .taken)
+    let at-loop = c .before .before .before .before .before in
+    compare-greater _ _ _ _ (at-loop .before .reach .ensures) (at-loop .loop .inv .1)
+    (λ i. c .before .before .before .shared-slice-known3 .given i .fits) (λ i. c .before .before .shared-slice-known4 .given i .fits)
+    (omega arith) (c .if2 .taken)
 
 loop-again : tie.Need-loop-again Inv-loop μ-loop
 loop-again c =
-    let a = c .before .before .before .before .before .before .before .before .before .args in
-    (omega arith, compare-on (a .x .now) (a .s .now) (a .at) _ _ (c .before .before .before .before .before .before .reach .ensures) (c .before .before .before .before .before .loop .inv .1) (c .if2 .left) (c .before .if1 .left))
+    let at-loop = c .before .before .before .before .before in
+    (omega arith, compare-on _ _ _ _ (at-loop .before .reach .ensures) (at-loop .loop .inv .1) (c .if2 .left) (c .before .if1 .left))
 
 returns-3 : tie.Need-returns-3 Inv-loop μ-loop
 returns-3 c =
-    let a = c .before .before .before .before .before .before .before .before .args in
-    compare-equal (a .x .now) (a .s .now) (a .at) _ _ (c .before .before .before .before .before .reach .ensures) (c .before .before .before .before .loop .inv .1) (omega arith) (sym (c .if3 .taken) ∙ c .before .zero .ensures)
+    let at-loop = c .before .before .before .before in
+    compare-equal _ _ _ _ (at-loop .before .reach .ensures) (at-loop .loop .inv .1) (omega arith)
+    (sym (c .if3 .taken) ∙ c .before .zero .ensures)
 
 returns-4 : tie.Need-returns-4 Inv-loop μ-loop
 returns-4 c =
-    let a = c .before .before .before .before .before .before .before .before .args in
-    compare-longer (a .x .now) (a .s .now) (a .at) _ _ (c .before .before .before .before .before .reach .ensures) (c .before .before .before .before .loop .inv .1) (omega arith) (sym (c .if3 .left) ∙ c .before .zero .ensures)
+    let at-loop = c .before .before .before .before in
+    compare-longer _ _ _ _ (at-loop .before .reach .ensures) (at-loop .loop .inv .1) (omega arith)
+    (sym (c .if3 .left) ∙ c .before .zero .ensures)
 
 pub compare-spec : {M : Type 1} → statement M
 compare-spec =

@@ -22,24 +22,22 @@ loop-holds c = (omega arith, refl)
 
 returns : tie.Need-returns Inv-loop μ-loop
 returns c =
-    let l = c .before .before .before in
-    let s = l .before .args .s .now in
-    let g : 0 < be (length s) s 0 = be-some (length s) s 0 (l .loop .k) (omega arith) (rw zero-add (c .if1 .taken)) in
+    let at-loop = c .before .before .before in
+    let s = at-loop .before .args .s .now in
+    let g : 0 < be (length s) s 0 = be-some (length s) s 0 (at-loop .loop .k) (omega arith) (rw zero-add (c .if1 .taken)) in
     sym (ne-eqb (be (length s) s 0) 0 (λ e. omega arith))
 
 loop-again : tie.Need-loop-again Inv-loop μ-loop
 loop-again c =
-    let l = c .before .before .before in
-    let s = l .before .args .s .now in
-    let g : getD s (0 + l .loop .k) 0 ≡ getD s (l .loop .k) 0 = rw zero-add in
-    (omega arith, omega (arith, be-next s 0 (l .loop .k)))
+    let at-loop = c .before .before .before in
+    let s = at-loop .before .args .s .now in
+    let g : getD s (0 + at-loop .loop .k) 0 ≡ getD s (at-loop .loop .k) 0 = rw zero-add in
+    (omega arith, omega (arith, be-next s 0 (at-loop .loop .k)))
 
 returns-2 : tie.Need-returns-2 Inv-loop μ-loop
 returns-2 c =
-    let l = c .before in
-    let s = l .before .args .s .now in
-    let k : l .loop .k ≡ length s = omega arith in
-    sym (eq-eqb (be (length s) s 0) 0 (rw k at (l .loop .inv .1)))
+    let k : c .before .loop .k ≡ length (c .before .before .args .s .now) = omega arith in
+    sym (eq-eqb _ 0 (rw k at (c .before .loop .inv .1)))
 
 pub zero-spec : {M : Type 1} → statement M
 zero-spec =

@@ -8,8 +8,7 @@ use Rattle.parents.proofs.edge.Tie as tie
 
 returns : tie.Need-returns
 returns c =
-    let z = c .before .before .before .before in
-    let p = records-in _ _ _ _ 1 (let h = z .pre .edge in omega (arith, c .before .size .ensures, c .before .before .start .ensures)) (c .part .ensures) in
+    let p = records-in _ _ _ _ 1 (omega (arith, c .before .size .ensures, c .before .before .start .ensures)) (c .part .ensures) in
     rw (mul-one, c .before .size .ensures, c .before .before .start .ensures) at p
 
 pub edge-spec : {M : Type 1} → statement M

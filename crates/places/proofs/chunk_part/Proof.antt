@@ -5,10 +5,14 @@ use Rattle.places.proofs.chunk_part.Statement.{statement}
 use Rattle.places.proofs.chunk_part.Tie as tie
 
 returns : tie.Need-returns
-returns c = part-barred _ _ _ _ (c .before .before .before .check .ensures) (c .no-part .ensures) (c .before .if1 .taken)
+returns c = part-barred _ _ (c .before .before .before .check .ensures) (c .no-part .ensures) (c .before .if1 .taken)
 
 returns-2 : tie.Need-returns-2
-returns-2 c = part-open _ _ _ _ (c .before .before .before .before .before .before .check .ensures) (simp (c .part-at .ensures, c .before .size .ensures, c .before .before .start .ensures, c .before .before .before .find .ensures)) (c .before .before .before .before .if1 .left)
+returns-2 c =
+    let at-find = c .before .before .before in
+    part-open _ _ (at-find .before .before .before .check .ensures)
+    (simp (c .part-at .ensures, c .before .size .ensures, c .before .before .start .ensures, at-find .find .ensures))
+    (at-find .before .if1 .left)
 
 pub chunk-part-spec : {M : Type 1} → statement M
 chunk-part-spec =

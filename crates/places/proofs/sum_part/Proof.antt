@@ -1,5 +1,4 @@
 -- `places::sum_part` meets its contract.
-use denote.Ref.{now}
 use native.Mathlib.Omega.{arith}
 use Rattle.fit.proofs.Fitting.{fitted, zero-of}
 use Rattle.places.proofs.Placing.{part-refused, part-fine}
@@ -8,13 +7,17 @@ use Rattle.places.proofs.sum_part.Statement.{statement}
 use Rattle.places.proofs.sum_part.Tie as tie
 
 returns : tie.Need-returns
-returns c = part-refused _ _ _ _ (c .before .before .before .fit .ensures) (c .no-part .ensures) (c .before .at .ensures) (c .before .before .if1 .taken)
+returns c =
+    let at-if1 = c .before .before in
+    part-refused _ _ (at-if1 .before .fit .ensures) (c .no-part .ensures) (c .before .at .ensures) (at-if1 .if1 .taken)
 
 sub-part-at : tie.Need-sub-part-at
-sub-part-at c = let k = fitted (now (c .before .before .before .before .args .s)) (c .before .before .before .before .args .f) (zero-of (c .before .before .fit .ensures) (c .before .if1 .left)) in omega (arith, k .narrow, k .fan)
+sub-part-at c = let k = fitted _ _ (zero-of (c .before .before .fit .ensures) (c .before .if1 .left)) in omega (arith, k .narrow, k .fan)
 
 returns-2 : tie.Need-returns-2
-returns-2 c = part-fine _ _ _ _ (c .before .before .before .fit .ensures) (c .part-at .ensures) (c .before .before .if1 .left)
+returns-2 c =
+    let at-if1 = c .before .before in
+    part-fine _ _ (at-if1 .before .fit .ensures) (c .part-at .ensures) (at-if1 .if1 .left)
 
 pub sum-part-spec : {M : Type 1} → statement M
 sum-part-spec =

@@ -1,5 +1,4 @@
 -- `report::parts` meets its contract.
-use denote.Ref.{now}
 use native.Mathlib.Omega.{arith}
 use Rattle.report.proofs.Reading.{short, large, cut, whole}
 use borrow.Author.Needs.{needs}
@@ -7,16 +6,16 @@ use Rattle.report.proofs.parts.Statement.{statement}
 use Rattle.report.proofs.parts.Tie as tie
 
 returns : tie.Need-returns
-returns c = short (now (c .before .before .args .input)) (omega arith)
+returns c = short _ (omega arith)
 
 returns-2 : tie.Need-returns-2
-returns-2 c = large (now (c .before .before .before .before .args .input)) (omega arith) (omega arith)
+returns-2 c = large _ (omega arith) (omega arith)
 
 returns-3 : tie.Need-returns-3
-returns-3 c = cut (now (c .before .before .before .before .before .args .input)) (omega arith) (omega arith) (omega arith)
+returns-3 c = cut _ (omega arith) (omega arith) (omega arith)
 
 returns-4 : tie.Need-returns-4
-returns-4 c = rw (c .before .before .be32 .ensures) (whole (now (c .before .before .before .before .before .args .input)) (omega arith) (omega arith) (omega arith))
+returns-4 c = rw (c .before .before .be32 .ensures) (whole _ (omega arith) (omega arith) (omega arith))
 
 pub parts-spec : {M : Type 1} → statement M
 parts-spec =

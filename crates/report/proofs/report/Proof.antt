@@ -1,5 +1,4 @@
 -- `report::report` meets its contract.
-use denote.Ref.{now}
 use native.Mathlib.Omega.{arith}
 use Rattle.report.specs.Output.{line, others}
 use Rattle.report.proofs.Reading.{listed, taken, output-read, output-not, printed}
@@ -8,22 +7,29 @@ use Rattle.report.proofs.report.Statement.{statement}
 use Rattle.report.proofs.report.Tie as tie
 
 sub-verify : tie.Need-sub-verify
-sub-verify c = omega (arith, listed (now (c .before .before .before .before .before .args .input)) (c .before .before .before .parts .ensures) (c .before .before .if1 .taken))
+sub-verify c =
+    omega (arith, listed _ (c .before .before .before .parts .ensures) (c .before .before .if1 .taken))
 
 part-verify-start : tie.Need-part-verify-start
-part-verify-start c = let h = listed (now (c .before .before .before .before .before .args .input)) (c .before .before .before .parts .ensures) (c .before .before .if1 .taken) in search needs
+part-verify-start c =
+    let h = listed _ (c .before .before .before .parts .ensures) (c .before .before .if1 .taken) in search needs
 
 part-verify-end-2 : tie.Need-part-verify-end-2
-part-verify-end-2 c = let h = listed (now (c .before .before .before .before .before .before .args .input)) (c .before .before .before .before .parts .ensures) (c .before .before .before .if1 .taken) in search needs
+part-verify-end-2 c =
+    let at-if1-2 = c .before .before .before in
+    let h = listed _ (at-if1-2 .before .parts .ensures) (at-if1-2 .if1 .taken) in search needs
 
 returns : tie.Need-returns
 returns c =
-    let v = taken (now (c .before .before .before .before .before .before .before .before .before .args .input)) (c .before .before .before .before .before .be32 .result) (c .before .before .before .before .before .be32 .ensures) (c .before .verify .ensures .0) in
-    printed _ (output-read _ (c .before .before .before .before .before .before .before .parts .ensures) (c .before .before .before .before .before .before .if1 .taken) v) (c .answer .ensures)
+    let at-be32-2 = c .before .before .before .before .before in
+    let v = taken _ (at-be32-2 .be32 .ensures) (c .before .verify .ensures .0) in
+    printed _ (output-read _ (at-be32-2 .before .before .parts .ensures) (at-be32-2 .before .if1 .taken) v) (c .answer .ensures)
 
 returns-2 : tie.Need-returns-2
 unfolding line others
-returns-2 c = printed _ (output-not (now (c .before .before .before .before .before .before .args .input)) (c .before .before .before .before .parts .ensures) (c .before .before .before .if1 .left)) (c .word .ensures)
+returns-2 c =
+    let at-if1-2 = c .before .before .before in
+    printed _ (output-not _ (at-if1-2 .before .parts .ensures) (at-if1-2 .if1 .left)) (c .word .ensures)
 
 pub report-spec : {M : Type 1} → statement M
 report-spec =

@@ -5,13 +5,17 @@ use Rattle.rules.proofs.bucket_rule.Statement.{statement}
 use Rattle.rules.proofs.bucket_rule.Tie as tie
 
 returns : tie.Need-returns
-returns c = bucket-early _ _ _ _ (c .before .early .ensures) (c .if1 .taken)
+returns c = bucket-early _ _ _ (c .before .early .ensures) (c .if1 .taken)
 
 returns-2 : tie.Need-returns-2
-returns-2 c = bucket-late _ _ _ _ (c .before .before .before .early .ensures) (c .before .before .if1 .left) _ (c .before .be32 .ensures) (c .if2 .taken)
+returns-2 c =
+    let at-if1 = c .before .before in
+    bucket-late _ _ _ (at-if1 .before .early .ensures) (at-if1 .if1 .left) (c .before .be32 .ensures) (c .if2 .taken)
 
 returns-3 : tie.Need-returns-3
-returns-3 c = bucket-fine _ _ _ _ (c .before .before .before .early .ensures) (c .before .before .if1 .left) _ (c .before .be32 .ensures) (c .if2 .left)
+returns-3 c =
+    let at-if1 = c .before .before in
+    bucket-fine _ _ _ (at-if1 .before .early .ensures) (at-if1 .if1 .left) (c .before .be32 .ensures) (c .if2 .left)
 
 pub bucket-rule-spec : {M : Type 1} → statement M
 bucket-rule-spec =

@@ -11,7 +11,10 @@ use Rattle.rules.proofs.early.Statement.{statement}
 use Rattle.rules.proofs.early.Tie as tie
 
 returns : tie.Need-returns
-returns c = sym (le-ltb (c .before .before .args .c) (lower (now (c .before .before .args .fan)) (c .before .before .args .b)) (omega (arith, lower-zero (now (c .before .before .args .fan)) (c .before .before .args .b) (c .if1 .taken))))
+returns c =
+    let start = c .before .before in
+    sym (le-ltb (start .args .c) (lower (now (start .args .fan)) (start .args .b))
+    (omega (arith, lower-zero (now (start .args .fan)) (c .if1 .taken))))
 
 returns-2 : tie.Need-returns-2
 returns-2 c = ap (ltb _) (c .be32 .ensures ∙ lower-is _ _ (c .before .if1 .left))

@@ -6,19 +6,34 @@ use Rattle.rules.proofs.id_rule.Statement.{statement}
 use Rattle.rules.proofs.id_rule.Tie as tie
 
 returns : tie.Need-returns
-returns c = id-zero _ _ _ _ (c .before .before .before .before .pre .1) (c .before .before .part .ensures) _ (c .before .zero .ensures) (c .if1 .taken)
+returns c =
+    let at-part = c .before .before in
+    id-zero _ _ _ _ (at-part .before .before .pre .1) (at-part .part .ensures) (c .before .zero .ensures) (c .if1 .taken)
 
 sub-above : tie.Need-sub-above
-sub-above c = omega (arith, one-back (c .before .before .before .before .before .args .c) (c .before .before .before .before .before .args .w) (c .if2 .taken))
+sub-above c =
+    let start = c .before .before .before .before .before in
+    omega (arith, one-back (start .args .c) (start .args .w) (c .if2 .taken))
 
 returns-2 : tie.Need-returns-2
-returns-2 c = id-order _ _ _ _ (c .before .before .before .before .before .before .before .pre .1) (c .before .before .before .before .before .part .ensures) _ (c .before .before .before .before .zero .ensures) (c .before .before .before .if1 .left) (c .before .before .if2 .taken) _ (c .before .above .ensures) (c .if3 .taken)
+returns-2 c =
+    let at-if1 = c .before .before .before in
+    let at-part = at-if1 .before .before in
+    id-order _ _ _ _ (at-part .before .before .pre .1) (at-part .part .ensures) (at-if1 .before .zero .ensures) (at-if1 .if1 .left)
+    (c .before .before .if2 .taken) (c .before .above .ensures) (c .if3 .taken)
 
 returns-3 : tie.Need-returns-3
-returns-3 c = id-fine _ _ _ _ (c .before .before .before .before .before .before .before .pre .1) (c .before .before .before .before .before .part .ensures) _ (c .before .before .before .before .zero .ensures) (c .before .before .before .if1 .left) (c .before .before .if2 .taken) _ (c .before .above .ensures) (c .if3 .left)
+returns-3 c =
+    let at-if1 = c .before .before .before in
+    let at-part = at-if1 .before .before in
+    id-fine _ _ _ _ (at-part .before .before .pre .1) (at-part .part .ensures) (at-if1 .before .zero .ensures) (at-if1 .if1 .left)
+    (c .before .before .if2 .taken) (c .before .above .ensures) (c .if3 .left)
 
 returns-4 : tie.Need-returns-4
-returns-4 c = id-first _ _ _ _ (c .before .before .before .before .before .pre .1) (c .before .before .before .part .ensures) _ (c .before .before .zero .ensures) (c .before .if1 .left) (c .if2 .left)
+returns-4 c =
+    let at-part = c .before .before .before in
+    id-first _ _ _ _ (at-part .before .before .pre .1) (at-part .part .ensures) (c .before .before .zero .ensures) (c .before .if1 .left)
+    (c .if2 .left)
 
 pub id-rule-spec : {M : Type 1} → statement M
 id-rule-spec =

@@ -7,7 +7,9 @@ use Rattle.rules.proofs.other.Statement.{statement}
 use Rattle.rules.proofs.other.Tie as tie
 
 returns : tie.Need-returns
-returns c = ap not (name-said _ _ _ _ _ _ (c .before .before .before .before .pre .0) (c .before .before .before .before .pre .1) (c .before .trailer .ensures) (c .claims .ensures))
+returns c =
+    let start = c .before .before .before .before in
+    ap not (name-said _ _ _ (start .pre .0) (start .pre .1) (c .before .trailer .ensures) (c .claims .ensures))
 
 pub other-spec : {M : Type 1} → statement M
 other-spec = tie.close (tie.spec

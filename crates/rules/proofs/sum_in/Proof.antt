@@ -2,7 +2,6 @@
 use mathlib.Core.Bool.{true, false}
 use mathlib.Core.Path.{refl, _∙_}
 use native.Mathlib.Omega.{arith}
-use denote.Ref.{now}
 use Rattle.words.proofs.Rows.{hit, miss, not-via}
 use Rattle.rules.specs.Rules.{sumRule, sumIn}
 use Rattle.rules.proofs.Trailers.{trailer-strange, trailer-short, trailer-there, sum-said}
@@ -20,11 +19,17 @@ returns-2 c = trailer-short _ _ _ (c .before .if1 .left) (c .if2 .taken)
 
 returns-3 : tie.Need-returns-3
 unfolding sumIn sumRule
-returns-3 c = hit 62 _ 0 (not-via _ _ true (sum-said (c .before .before .before .before .before .before .before .args .w) (now (c .before .before .before .before .before .before .before .args .s)) _ (omega arith) (c .before .before .before .digest .ensures) (c .before .same .ensures)) (c .if3 .taken)) ∙ trailer-there _ _ _ (c .before .before .before .before .before .if1 .left) (c .before .before .before .before .if2 .left)
+returns-3 c =
+    let at-digest = c .before .before .before in
+    hit 62 _ 0 (not-via _ _ true (sum-said _ (omega arith) (at-digest .digest .ensures) (c .before .same .ensures)) (c .if3 .taken))
+    ∙ trailer-there _ _ _ (at-digest .before .before .if1 .left) (at-digest .before .if2 .left)
 
 returns-4 : tie.Need-returns-4
 unfolding sumIn sumRule
-returns-4 c = miss 62 _ 0 0 (not-via _ _ false (sum-said (c .before .before .before .before .before .before .before .args .w) (now (c .before .before .before .before .before .before .before .args .s)) _ (omega arith) (c .before .before .before .digest .ensures) (c .before .same .ensures)) (c .if3 .left)) refl ∙ trailer-there _ _ _ (c .before .before .before .before .before .if1 .left) (c .before .before .before .before .if2 .left)
+returns-4 c =
+    let at-digest = c .before .before .before in
+    miss 62 _ 0 0 (not-via _ _ false (sum-said _ (omega arith) (at-digest .digest .ensures) (c .before .same .ensures)) (c .if3 .left))
+    refl ∙ trailer-there _ _ _ (at-digest .before .before .if1 .left) (at-digest .before .if2 .left)
 
 pub sum-in-spec : {M : Type 1} → statement M
 sum-in-spec =

@@ -14,7 +14,8 @@ returns c = hit 67 _ 0 (sym (zero-said _ _ _ _ (omega arith) (c .before .before 
 
 returns-2 : tie.Need-returns-2
 unfolding treeRule
-returns-2 c = miss 67 _ 0 0 (sym (zero-said _ _ _ _ (omega arith) (c .before .before .part .ensures) (c .before .zero .ensures)) ∙ c .if1 .left) refl
+returns-2 c =
+    miss 67 _ 0 0 (sym (zero-said _ _ _ _ (omega arith) (c .before .before .part .ensures) (c .before .zero .ensures)) ∙ c .if1 .left) refl
 
 pub tree-rule-spec : {M : Type 1} → statement M
 tree-rule-spec =

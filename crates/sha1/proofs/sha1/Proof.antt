@@ -12,9 +12,10 @@ use Rattle.sha1.proofs.sha1.Tie as tie
 
 returns : tie.Need-returns
 returns c =
-    let s : List ℕ = c .before .before .before .before .args .s .now in
+    let at-new = c .before .before in
+    let s : List ℕ = at-new .before .before .args .s .now in
     c .finish .ensures
-    ∙ ap finished (c .before .update .ensures ∙ ap (λ (h : Hasher). updated h s) (c .before .before .new .ensures ∙ of-none) ∙ of-more [] s)
+    ∙ ap finished (c .before .update .ensures ∙ ap (λ (h : Hasher). updated h s) (at-new .new .ensures ∙ of-none) ∙ of-more [] s)
     ∙ of-finished s
 
 pub sha1-spec : {M : Type 1} → statement M

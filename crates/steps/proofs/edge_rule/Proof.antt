@@ -16,7 +16,9 @@ returns c = search rows depth 12
 
 returns-2 : tie.Need-returns-2
 unfolding edgeRule
-returns-2 c = miss 52 _ _ 53 (c .before .if1 .left) (hit 53 _ _ (le-leb (length (now (c .before .before .args .edge))) (4 * c .before .before .args .k) (omega arith)))
+returns-2 c =
+    miss 52 _ _ 53 (c .before .if1 .left)
+    (hit 53 _ _ (le-leb (length (now (c .before .before .args .edge))) (4 * c .before .before .args .k) (omega arith)))
 
 returns-3 : tie.Need-returns-3
 unfolding edgeRule

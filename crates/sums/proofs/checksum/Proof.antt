@@ -1,7 +1,6 @@
 -- `sums::checksum` meets its contract.
 use mathlib.Core.Path.{refl}
 use native.Mathlib.Omega.{arith}
-use denote.Ref.{now}
 use Rattle.words.proofs.Parts.{run-in}
 use Rattle.fit.proofs.Fitting.{part-none, part-fine, zero-of}
 use Rattle.sums.proofs.Trailing.{trailer-room}
@@ -10,16 +9,18 @@ use Rattle.sums.proofs.checksum.Statement.{statement}
 use Rattle.sums.proofs.checksum.Tie as tie
 
 returns : tie.Need-returns
-returns c = part-none _ _ _ _ _ _ (c .before .before .fit .ensures) (c .before .if1 .taken) (record { block = refl; start = omega arith; bytes = refl })
+returns c =
+    part-none _ _ _ _ _ (c .before .before .fit .ensures) (c .before .if1 .taken)
+    (record { block = refl; start = omega arith; bytes = refl })
 
 sub-part : tie.Need-sub-part
-sub-part c = let k = c .before .before .before .before in omega (arith, trailer-room (now (k .args .s)) (k .args .f) _ (c .before .before .fit .ensures) (c .before .if1 .left))
+sub-part c = omega (arith, trailer-room _ _ (c .before .before .fit .ensures) (c .before .if1 .left))
 
 returns-2 : tie.Need-returns-2
 returns-2 c =
-    let k = c .before .before .before .before .before in
-    let h = trailer-room (now (k .args .s)) (k .args .f) _ (c .before .before .before .fit .ensures) (c .before .before .if1 .left) in
-    part-fine _ _ _ _ _ (zero-of (c .before .before .before .fit .ensures) (c .before .before .if1 .left)) (run-in _ _ _ _ (omega arith) (c .part .ensures))
+    let at-if1 = c .before .before in
+    let h = trailer-room _ _ (at-if1 .before .fit .ensures) (at-if1 .if1 .left) in
+    part-fine _ _ _ _ _ (zero-of (at-if1 .before .fit .ensures) (at-if1 .if1 .left)) (run-in _ _ _ _ (omega arith) (c .part .ensures))
 
 pub checksum-spec : {M : Type 1} → statement M
 checksum-spec =

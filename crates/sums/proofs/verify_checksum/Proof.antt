@@ -1,6 +1,5 @@
 -- `sums::verify_checksum` meets its contract.
 use mathlib.Core.Path.{ap, _∙_}
-use denote.Ref.{now}
 use Rattle.access.specs.Lookup.{asking}
 use Rattle.access.specs.declared.Asking.the-variants.{Refused}
 use Rattle.access.proofs.Asks.{asking-some, asking-none}
@@ -11,18 +10,20 @@ use Rattle.sums.proofs.verify_checksum.Tie as tie
 
 returns : tie.Need-returns
 returns c =
-    let k = c .before .before .before .before in
-    ap Refused (c .at .ensures) ∙ asking-some _ (c .before .if1 .taken) ∙ ap asking (checksum-misfit (now (k .args .s)) (k .args .f) _ (c .before .before .fit .ensures) (c .before .if1 .taken))
+    ap Refused (c .at .ensures) ∙ asking-some _ (c .before .if1 .taken)
+    ∙ ap asking (checksum-misfit _ _ (c .before .before .fit .ensures) (c .before .if1 .taken))
 
 returns-2 : tie.Need-returns-2
 returns-2 c =
-    let k = c .before .before .before .before .before .before in
-    ap Refused (c .at2 .ensures) ∙ asking-some _ (c .before .if2 .taken) ∙ ap asking (checksum-sum (now (k .args .s)) (k .args .f) _ (c .before .before .before .before .fit .ensures) (c .before .before .before .if1 .left) _ (c .before .before .sum-in .ensures))
+    let at-if1 = c .before .before .before in
+    ap Refused (c .at2 .ensures) ∙ asking-some _ (c .before .if2 .taken)
+    ∙ ap asking (checksum-sum _ _ (at-if1 .before .fit .ensures) (at-if1 .if1 .left) (c .before .before .sum-in .ensures))
 
 returns-3 : tie.Need-returns-3
 returns-3 c =
-    let k = c .before .before .before .before .before in
-    asking-none _ (c .if2 .left) ∙ ap asking (checksum-sum (now (k .args .s)) (k .args .f) _ (c .before .before .before .fit .ensures) (c .before .before .if1 .left) _ (c .before .sum-in .ensures))
+    let at-if1 = c .before .before in
+    asking-none _ (c .if2 .left)
+    ∙ ap asking (checksum-sum _ _ (at-if1 .before .fit .ensures) (at-if1 .if1 .left) (c .before .sum-in .ensures))
 
 pub verify-checksum-spec : {M : Type 1} → statement M
 verify-checksum-spec =

@@ -23,12 +23,16 @@ loop-again : tie.Need-loop-again Inv-loop μ-loop
 loop-again c = fill-next _ _ _ _ _ (c .before .before .loop .inv) (search needs) (c .digit .ensures)
 
 part-put-end : tie.Need-part-put-end Inv-loop μ-loop
-part-put-end c = fill-size _ _ _ _ _ (c .before .before .before .before .loop .inv)
+part-put-end c =
+    let at-loop = c .before .before .before .before in
+    fill-size _ _ _ _ (at-loop .loop .inv)
 
 returns : tie.Need-returns Inv-loop μ-loop
 returns c =
-    let e = fill-ends _ _ _ _ _ (c .before .before .before .before .before .before .before .before .loop .inv) (search needs) (c .before .before .before .before .before .before .digit2 .ensures) in
-    (c .before .before .put .ensures .0 ∙ ap (after _ _) e, c .before .before .put .ensures .1 ∙ ap (written _ _) e)
+    let at-put = c .before .before in
+    let at-digit2 = at-put .before .before .before .before in
+    let e = fill-ends _ _ _ _ (at-digit2 .before .before .loop .inv) (search needs) (at-digit2 .digit2 .ensures) in
+    (at-put .put .ensures .0 ∙ ap (after _ _) e, at-put .put .ensures .1 ∙ ap (written _ _) e)
 
 pub number-spec : {M : Type 1} → statement M
 number-spec =

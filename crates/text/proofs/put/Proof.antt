@@ -2,7 +2,6 @@
 use Prim.Native.Nat.{_-_}
 use native.Mathlib.Omega.{arith}
 use borrow.Author.Needs.{needs}
-use denote.Ref.{now}
 use lib.ListN.{length}
 use Rattle.text.proofs.Places.{put-full, Putting, put-begins, put-next, put-ends}
 use Rattle.text.proofs.put.Statement.{statement}
@@ -15,19 +14,19 @@ abbrev μ-loop : tie.MeasureT-loop
 μ-loop out₀ at s i₀ out i = length s - i
 
 returns : tie.Need-returns Inv-loop μ-loop
-returns c = put-full (now (c .before .args .out)) (c .before .args .at) (now (c .before .args .s)) (omega arith)
+returns c = put-full _ _ _ (omega arith)
 
 returns-2 : tie.Need-returns-2 Inv-loop μ-loop
-returns-2 c = put-full (now (c .before .before .args .out)) (c .before .before .args .at) (now (c .before .before .args .s)) (omega arith)
+returns-2 c = put-full _ _ _ (omega arith)
 
 loop-holds : tie.Need-loop-holds Inv-loop μ-loop
 loop-holds c = put-begins _ _ _ (omega arith)
 
 loop-again : tie.Need-loop-again Inv-loop μ-loop
-loop-again c = put-next _ _ _ _ _ (c .before .before .loop .inv) (search needs)
+loop-again c = put-next _ _ _ (c .before .before .loop .inv) (search needs)
 
 returns-3 : tie.Need-returns-3 Inv-loop μ-loop
-returns-3 c = put-ends _ _ _ _ _ (c .before .loop .inv) (search needs)
+returns-3 c = put-ends _ _ _ (c .before .loop .inv) (search needs)
 
 pub put-spec : {M : Type 1} → statement M
 put-spec =

@@ -1,19 +1,18 @@
 -- `traverse::one` meets its contract.
 use mathlib.Core.Path.{_∙_}
-use denote.Ref.{now}
 use Rattle.traverse.proofs.Traversing.{one-large, one-size, one-list}
 use borrow.Author.Needs.{needs}
 use Rattle.traverse.proofs.one.Statement.{statement}
 use Rattle.traverse.proofs.one.Tie as tie
 
 returns : tie.Need-returns
-returns c = let k = c .before .before .before in c .at .ensures ∙ one-large 32 (k .args .n) (now (k .args .list)) (c .before .if1 .taken)
+returns c = c .at .ensures ∙ one-large 32 _ _ (c .before .if1 .taken)
 
 returns-2 : tie.Need-returns-2
-returns-2 c = let k = c .before .before .before .before in c .at2 .ensures ∙ one-size 32 (k .args .n) (now (k .args .list)) (c .before .before .if1 .left) (c .before .if2 .taken)
+returns-2 c = c .at2 .ensures ∙ one-size 32 _ _ (c .before .before .if1 .left) (c .before .if2 .taken)
 
 returns-3 : tie.Need-returns-3
-returns-3 c = let k = c .before .before .before .before in c .check .ensures ∙ one-list 32 (k .args .n) (now (k .args .list)) (c .before .before .if1 .left) (c .before .if2 .left)
+returns-3 c = c .check .ensures ∙ one-list 32 _ _ (c .before .before .if1 .left) (c .before .if2 .left)
 
 pub one-spec : {M : Type 1} → statement M
 one-spec = tie.close (tie.spec (λ c κs. search needs) returns (λ c κs. search needs) returns-2 (λ c κs. search needs) returns-3)

@@ -1,7 +1,6 @@
 -- `traverse::opened` meets its contract.
 use mathlib.Core.Bool.{true}
 use mathlib.Core.Path.{ap, _∙_}
-use denote.Ref.{now}
 use Rattle.fit.proofs.Opens.{opened}
 use Rattle.traverse.specs.Traversal.{refusedBy}
 use Rattle.traverse.proofs.Traversing.{file-sum, file-name, file-commit, file-fine}
@@ -11,28 +10,42 @@ use Rattle.traverse.proofs.opened.Tie as tie
 
 returns : tie.Need-returns
 returns c =
-    let k = c .before .before .before .before .before .before in
-    c .refused .ensures ∙ ap refusedBy (c .before .at .ensures) ∙ file-sum 32 (now (k .args .chain)) (now (k .args .list)) (k .args .f) (k .pre) _ (c .before .before .before .sum-in .ensures) (c .before .before .if1 .taken)
+    let at-if1 = c .before .before in
+    let start = at-if1 .before .before .before .before in
+    c .refused .ensures ∙ ap refusedBy (c .before .at .ensures)
+    ∙ file-sum 32 _ _ (start .pre) (at-if1 .before .sum-in .ensures) (at-if1 .if1 .taken)
 
 returns-2 : tie.Need-returns-2
 returns-2 c =
-    let k = c .before .before .before .before .before .before .before .before in
+    let at-if2 = c .before .before in
+    let at-if1 = at-if2 .before .before in
+    let start = at-if1 .before .before .before .before in
     c .refused2 .ensures ∙ ap refusedBy (c .before .at2 .ensures)
-    ∙ file-name 32 (now (k .args .chain)) (now (k .args .list)) (k .args .f) (k .pre) _ (c .before .before .before .before .before .sum-in .ensures) (c .before .before .before .before .if1 .left) _ (c .before .before .before .name-in .ensures) (c .before .before .if2 .taken)
+    ∙ file-name 32 _ _ (start .pre) (at-if1 .before .sum-in .ensures) (at-if1 .if1 .left) (at-if2 .before .name-in .ensures)
+    (at-if2 .if2 .taken)
 
 commits-requires : tie.Need-commits-requires
-commits-requires c κs = let k = c .before .before .before .before .before .before in opened true (now (k .args .chain)) (k .args .f) (k .pre)
+commits-requires c κs =
+    let start = c .before .before .before .before .before .before in
+    opened true _ (start .pre)
 
 returns-3 : tie.Need-returns-3
 returns-3 c =
-    let k = c .before .before .before .before .before .before .before .before .before .before .before .before in
+    let at-if3 = c .before .before .before in
+    let at-if2 = at-if3 .before .before .before in
+    let at-if1 = at-if2 .before .before in
+    let start = at-if1 .before .before .before .before in
     c .refused3 .ensures ∙ ap refusedBy (c .before .at3 .ensures)
-    ∙ file-commit 32 (now (k .args .chain)) (now (k .args .list)) (k .args .f) (k .pre) _ (c .before .before .before .before .before .before .before .before .before .sum-in .ensures) (c .before .before .before .before .before .before .before .before .if1 .left) _ (c .before .before .before .before .before .before .before .name-in .ensures) (c .before .before .before .before .before .before .if2 .left) _ (c .before .before .before .before .before .commits .ensures) (c .before .before .before .if3 .taken)
+    ∙ file-commit 32 _ _ (start .pre) (at-if1 .before .sum-in .ensures) (at-if1 .if1 .left) (at-if2 .before .name-in .ensures)
+    (at-if2 .if2 .left) (at-if3 .before .before .commits .ensures) (at-if3 .if3 .taken)
 
 returns-4 : tie.Need-returns-4
 returns-4 c =
-    let k = c .before .before .before .before .before .before .before .before .before .before in
-    file-fine 32 (now (k .args .chain)) (now (k .args .list)) (k .args .f) (k .pre) _ (c .before .before .before .before .before .before .before .sum-in .ensures) (c .before .before .before .before .before .before .if1 .left) _ (c .before .before .before .before .before .name-in .ensures) (c .before .before .before .before .if2 .left) _ (c .before .before .before .commits .ensures) (c .before .if3 .left)
+    let at-if2 = c .before .before .before .before in
+    let at-if1 = at-if2 .before .before in
+    let start = at-if1 .before .before .before .before in
+    file-fine 32 _ _ (start .pre) (at-if1 .before .sum-in .ensures) (at-if1 .if1 .left) (at-if2 .before .name-in .ensures)
+    (at-if2 .if2 .left) (c .before .before .before .commits .ensures) (c .before .if3 .left)
 
 pub opened-spec : {M : Type 1} → statement M
 opened-spec =

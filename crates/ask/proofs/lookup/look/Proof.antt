@@ -18,67 +18,90 @@ abbrev μ-loop : tie.MeasureT-loop
 μ-loop chain list z n x k₀ at₀ sum₀ hit₀ k at sum hit = n - k
 
 -- what was cut is the file at hand, and how it opens
-cut : (c : tie.After-part Inv-loop μ-loop) →
-    (let y = c .before .before .before .before .before .before .before in c .part .result .now ≡ partAt (y .args .z) (y .args .chain .now) (y .args .list .now) (c .before .before .before .loop .k))
+cut : (c : tie.After-part Inv-loop μ-loop)
+    → (let start = c .before .before .before .before .before .before .before in
+    c .part .result .now ≡ partAt (start .args .z) (start .args .chain .now) (start .args .list .now) (c .before .before .before .loop .k))
 cut c =
-    let y = c .before .before .before .before .before .before .before in
-    let o = c .before .before .before .loop in
-    part-is (y .args .z) (y .args .chain) (y .args .list .now) (y .args .n) (y .pre) (o .k) (o .at) (c .before .length-at .result)
-    (c .before .before .loop-test .taken) (o .inv .along .place) (c .before .length-at .ensures) (c .part .result) (c .part .ensures)
+    let at-loop = c .before .before .before in
+    let start = at-loop .before .before .before .before in
+    part-is _ (start .pre) _
+    (c .before .before .loop-test .taken) (at-loop .loop .inv .along .place) (c .before .length-at .ensures) _ (c .part .ensures)
 
-goes : (c : tie.After-open Inv-loop μ-loop) (v : Opening) → c .«open» .result ≡ v →
-    (let y = c .before .before .before .before .before .before .before .before in openAt (y .args .z) (y .args .chain .now) (y .args .list .now) (c .before .before .before .before .loop .k) ≡ v)
-goes c v e =
-    let y = c .before .before .before .before .before .before .before .before in
-    let o = c .before .before .before .before .loop in
-    open-is (y .args .z) (y .args .chain .now) (y .args .list .now) (o .k) (c .before .part .result .now) (c .«open» .result) v (cut (c .before)) (c .«open» .ensures) e
+goes : (c : tie.After-open Inv-loop μ-loop) {v : Opening} → c .«open» .result ≡ v
+    → (let start = c .before .before .before .before .before .before .before .before in
+    openAt (start .args .z) (start .args .chain .now) (start .args .list .now) (c .before .before .before .before .loop .k) ≡ v)
+goes c {v} e =
+    open-is _ _ _ _ (cut (c .before)) (c .«open» .ensures) e
 
 loop-holds : tie.Need-loop-holds Inv-loop μ-loop
 loop-holds c =
-    let y = c .before .before .before in
-    look-begins (y .args .z) (y .args .chain .now) (y .args .list .now) (y .args .n) (y .pre) (y .args .x .now) _ refl
+    look-begins (c .before .before .before .pre) _ _ refl
 
 returns : tie.Need-returns Inv-loop μ-loop
 returns c =
-    let y = c .before .before .before .before .before .before .before .before .before .before .before .before in
-    let o = c .before .before .before .before .before .before .before .before .loop in
-    rw (c .of-file .ensures) (look-refused (y .args .z) (y .args .chain .now) (y .args .list .now) (y .args .n) (y .pre) (y .args .x .now) (o .k) (o .at) (o .sum) (o .hit) (o .inv) (c .before .before .before .before .before .before .before .loop-test .taken) _ (goes (c .before .before .before .before) _ (c .before .before .o .given .1)))
+    let at-o = c .before .before in
+    let at-loop-test = at-o .before .before .before .before .before in
+    let start = at-loop-test .before .before .before .before .before in
+    rw (c .of-file .ensures)
+    (look-refused (start .pre) _ (at-loop-test .before .loop .inv) (at-loop-test .loop-test .taken)
+    (goes (at-o .before .before) (at-o .o .given .1)))
 
 noted-requires : tie.Need-noted-requires Inv-loop μ-loop
 noted-requires c κs =
-    let y = c .before .before .before .before .before .before .before .before .before .before .before in
-    let o = c .before .before .before .before .before .before .before .loop in
-    look-fits (y .args .z) (y .args .chain .now) (y .args .list .now) (y .args .n) (y .pre) (y .args .x .now) (o .k) (o .at) (o .sum) (o .hit) (o .inv) (c .before .before .before .before .before .before .loop-test .taken) _ (goes (c .before .before .before) _ (c .before .o2 .given .1)) _
+    let at-open = c .before .before .before in
+    let at-loop-test = at-open .before .before .before in
+    let start = at-loop-test .before .before .before .before .before in
+    look-fits (start .pre) _ (at-loop-test .before .loop .inv) (at-loop-test .loop-test .taken) (goes at-open (c .before .o2 .given .1)) _
 
 add-sum : tie.Need-add-sum Inv-loop μ-loop
 add-sum c =
-    let y = c .before .before .before .before .before .before .before .before .before .before .before .before .before in
-    let o = c .before .before .before .before .before .before .before .before .before .loop in
-    omega (arith, along-room (y .args .z) (y .args .chain .now) (y .args .list .now) (y .args .n) (y .pre) (o .k) (o .at) (o .sum) (o .inv .along) (c .before .before .before .before .before .before .before .before .loop-test .taken) _ (goes (c .before .before .before .before .before) _ (c .before .before .before .o2 .given .1)))
+    let at-o2 = c .before .before .before in
+    let at-loop-test = at-o2 .before .before .before .before .before in
+    let start = at-loop-test .before .before .before .before .before in
+    omega (
+      arith,
+      along-room _ _ _ (start .pre) _ _ (at-loop-test .before .loop .inv .along) (at-loop-test .loop-test .taken) _
+          (goes (at-o2 .before .before) (at-o2 .o2 .given .1)),
+    )
 
 add-at : tie.Need-add-at Inv-loop μ-loop
 add-at c =
-    let y = c .before .before .before .before .before .before .before .before .before .before .before .before .before in
-    let o = c .before .before .before .before .before .before .before .before .before .loop in
-    omega (arith, along-room (y .args .z) (y .args .chain .now) (y .args .list .now) (y .args .n) (y .pre) (o .k) (o .at) (o .sum) (o .inv .along) (c .before .before .before .before .before .before .before .before .loop-test .taken) _ (goes (c .before .before .before .before .before) _ (c .before .before .before .o2 .given .1)), ap length (cut (c .before .before .before .before .before .before)))
+    let at-o2 = c .before .before .before in
+    let at-part = at-o2 .before .before .before in
+    let at-loop = at-part .before .before .before in
+    let start = at-loop .before .before .before .before in
+    omega (
+      arith,
+      along-room _ _ _ (start .pre) _ _ (at-loop .loop .inv .along) (at-part .before .before .loop-test .taken) _
+          (goes (at-o2 .before .before) (at-o2 .o2 .given .1)),
+      ap length (cut at-part),
+    )
 
 add-k : tie.Need-add-k Inv-loop μ-loop
-add-k c = omega (arith, c .before .before .before .before .before .before .before .before .loop-test .taken, c .before .before .before .before .before .before .before .before .before .before .before .before .before .pre .few)
+add-k c =
+    let at-loop-test = c .before .before .before .before .before .before .before .before in
+    let start = at-loop-test .before .before .before .before .before in
+    omega (arith, at-loop-test .loop-test .taken, start .pre .few)
 
 loop-less : tie.Need-loop-less Inv-loop μ-loop
-loop-less c = omega (arith, c .before .before .before .before .before .before .before .before .loop-test .taken)
+loop-less c =
+    let at-loop-test = c .before .before .before .before .before .before .before .before in
+    omega (arith, at-loop-test .loop-test .taken)
 
 loop-again : tie.Need-loop-again Inv-loop μ-loop
 loop-again c =
-    let y = c .before .before .before .before .before .before .before .before .before .before .before .before .before in
-    let o = c .before .before .before .before .before .before .before .before .before .loop in
-    rw (c .before .noted .ensures) (look-next (y .args .z) (y .args .chain .now) (y .args .list .now) (y .args .n) (y .pre) (y .args .x .now) (o .k) (o .at) (o .sum) (o .hit) (o .inv) (c .before .before .before .before .before .before .before .before .loop-test .taken) _ (goes (c .before .before .before .before .before) _ (c .before .before .before .o2 .given .1)) _ (cut (c .before .before .before .before .before .before)))
+    let at-o2 = c .before .before .before in
+    let at-part = at-o2 .before .before .before in
+    let at-loop = at-part .before .before .before in
+    let start = at-loop .before .before .before .before in
+    rw (c .before .noted .ensures)
+    (look-next (start .pre) _ (at-loop .loop .inv) (at-part .before .before .loop-test .taken)
+    (goes (at-o2 .before .before) (at-o2 .o2 .given .1)) (cut at-part))
 
 returns-2 : tie.Need-returns-2 Inv-loop μ-loop
 returns-2 c =
-    let y = c .before .before .before .before .before .before in
-    let o = c .before .before .loop in
-    rw (c .at .ensures) (look-ends (y .args .z) (y .args .chain .now) (y .args .list .now) (y .args .n) (y .pre) (y .args .x .now) (o .k) (o .at) (o .sum) (o .hit) (o .inv) (c .before .loop-test .left))
+    let start = c .before .before .before .before .before .before in
+    rw (c .at .ensures) (look-ends (start .pre) _ (c .before .before .loop .inv) (c .before .loop-test .left))
 
 pub look-spec : {M : Type 1} → statement M
 look-spec =

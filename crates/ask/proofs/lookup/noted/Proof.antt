@@ -11,19 +11,26 @@ returns : tie.Need-returns
 returns c = noted-seen _ _ _ (c .if1 .taken)
 
 add-pos : tie.Need-add-pos
-add-pos c = omega (arith, c .before .before .before .before .before .before .before .before .pre (c .before .before .p .given .0 .0 .0) (sym (c .before .before .before .before .lookup .ensures .0) ∙ c .before .before .p .given .1))
+add-pos c =
+    let at-p = c .before .before in
+    let start = at-p .before .before .before .before .before .before in
+    omega (arith, start .pre (at-p .p .given .0 .0 .0) (sym (at-p .before .before .lookup .ensures .0) ∙ at-p .p .given .1))
 
 returns-2 : tie.Need-returns-2
 unfolding noteFile
-returns-2 c = noted-new _ _ _ (c .before .before .before .before .before .if1 .left) _ (sym (c .before .before .before .before .lookup .ensures .0) ∙ c .before .before .p .given .1)
+returns-2 c =
+    let at-lookup = c .before .before .before .before in
+    noted-new _ _ _ (at-lookup .before .if1 .left) (sym (at-lookup .lookup .ensures .0) ∙ c .before .before .p .given .1)
 
 returns-3 : tie.Need-returns-3
 unfolding noteFile
-returns-3 c = noted-new _ _ _ (c .before .before .before .if1 .left) _ (sym (c .before .before .lookup .ensures .0) ∙ c .enum-told .given .1)
+returns-3 c =
+    noted-new _ _ _ (c .before .before .before .if1 .left) (sym (c .before .before .lookup .ensures .0) ∙ c .enum-told .given .1)
 
 returns-4 : tie.Need-returns-4
 unfolding noteFile
-returns-4 c = noted-new _ _ _ (c .before .before .before .if1 .left) _ (sym (c .before .before .lookup .ensures .0) ∙ c .enum-told2 .given .1)
+returns-4 c =
+    noted-new _ _ _ (c .before .before .before .if1 .left) (sym (c .before .before .lookup .ensures .0) ∙ c .enum-told2 .given .1)
 
 pub noted-spec : {M : Type 1} → statement M
 noted-spec =

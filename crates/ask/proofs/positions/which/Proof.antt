@@ -1,6 +1,5 @@
 -- `ask::positions::which` meets its contract.
 use mathlib.Core.Path.{sym, _∙_}
-use denote.Ref.{now}
 use Rattle.ask.proofs.Reading.{which-none, which-fine}
 use borrow.Author.Needs.{needs}
 use Rattle.ask.proofs.positions.which.Statement.{statement}
@@ -8,13 +7,13 @@ use Rattle.ask.proofs.positions.which.Tie as tie
 
 returns : tie.Need-returns
 returns c =
-    let y = c .before .before .before .before .before .before in
-    which-none 32 (y .args .chain) (now (y .args .list)) (y .args .pos .0) _ (sym (c .before .before .before .locate .ensures) ∙ c .before .q .given .1)
+    let at-locate = c .before .before .before in
+    which-none 32 (at-locate .before .before .before .args .chain) _ _ (sym (at-locate .locate .ensures) ∙ c .before .q .given .1)
 
 returns-2 : tie.Need-returns-2
 returns-2 c =
-    let y = c .before .before .before .before .before in
-    which-fine 32 (y .args .chain) (now (y .args .list)) (y .args .pos .0) _ (sym (c .before .before .locate .ensures) ∙ c .enum-told .given .1)
+    let start = c .before .before .before .before .before in
+    which-fine 32 (start .args .chain) _ _ (sym (c .before .before .locate .ensures) ∙ c .enum-told .given .1)
 
 pub which-spec : {M : Type 1} → statement M
 which-spec =

@@ -1,7 +1,6 @@
 -- `audit::commits::attempt` meets its contract.
 use mathlib.Core.Path.{refl}
 use native.Mathlib.Omega.{arith}
-use denote.Ref.{now}
 use borrow.Author.Tests.{eqb-true}
 use Rattle.audit.proofs.Trying.{cut-wide, tried-entry, tried-none, tried-walk, tried-gen, tried-fine}
 use borrow.Author.Needs.{needs}
@@ -9,34 +8,57 @@ use Rattle.audit.proofs.commits.attempt.Statement.{statement}
 use Rattle.audit.proofs.commits.attempt.Tie as tie
 
 returns : tie.Need-returns
-returns c = let k = c .before .before .before .before .before .before .before .before .before in tried-entry (k .args .z) (now (k .args .chain)) (now (k .args .list)) (k .args .i) (k .args .w) (k .args .n) (now (k .args .fan)) (now (k .args .ids)) (now (k .args .cdat)) (now (k .args .edge)) (k .args .there) (k .pre .1 .0) (k .args .k) (k .pre .1 .1) _ (c .before .before .entry-in .ensures) _ (c .stopped .ensures) (c .before .if1 .taken)
+returns c =
+    let start = c .before .before .before .before .before .before .before .before .before in
+    tried-entry _ _ _ _ _ _ _ _ _ _ _ (start .pre .1 .0) _ (start .pre .1 .1) (c .before .before .entry-in .ensures) _
+    (c .stopped .ensures) (c .before .if1 .taken)
 
 meet-requires : tie.Need-meet-requires
 meet-requires c κs =
-    let k = c .before .before .before .before .before .before .before .before .before .before .before .before in
-    let o = cut-wide (k .args .z) (now (k .args .chain)) (now (k .args .list)) (k .args .i) (k .args .w) (k .args .n) (now (k .args .fan)) (now (k .args .ids)) (now (k .args .cdat)) (now (k .args .edge)) (k .args .there) (k .pre .1 .0) in
-    (k .pre .0, (omega (arith, eqb-true (k .pre .1 .0 .inner .width) 20 (o .known), k .pre .1 .0 .width), k .pre .1 .0 .below))
+    let start = c .before .before .before .before .before .before .before .before .before .before .before .before in
+    let o = cut-wide _ _ _ _ _ _ _ _ _ _ _ (start .pre .1 .0) in (
+      start .pre .0,
+      (omega (arith, eqb-true (start .pre .1 .0 .inner .width) 20 (o .known), start .pre .1 .0 .width), start .pre .1 .0 .below),
+    )
 
 returns-2 : tie.Need-returns-2
 returns-2 c =
-    let k = c .before .before .before .before .before .before .before .before .before .before .before .before .before .before .before .before in
-    tried-walk (k .args .z) (now (k .args .chain)) (now (k .args .list)) (k .args .i) (k .args .w) (k .args .n) (now (k .args .fan)) (now (k .args .ids)) (now (k .args .cdat)) (now (k .args .edge)) (k .args .there) (k .pre .1 .0) (k .args .k) (k .pre .1 .1) _ (c .before .before .before .before .before .before .before .before .before .entry-in .ensures) (c .before .before .before .before .before .before .before .before .if1 .left) _ (c .before .before .before .before .before .before .before .commit-in .ensures) _ (c .before .before .before .before .before .x .given .1) _ (c .before .before .before .meet .ensures) _ (c .before .if2 .taken) (c .stopped3 .ensures)
+    let at-meet = c .before .before .before in
+    let at-x = at-meet .before .before in
+    let at-if1 = at-x .before .before .before in
+    let start = at-if1 .before .before .before .before .before .before .before .before in
+    tried-walk _ _ _ _ _ _ _ _ _ _ _ (start .pre .1 .0) _ (start .pre .1 .1) (at-if1 .before .entry-in .ensures) (at-if1 .if1 .left)
+    (at-x .before .before .commit-in .ensures) (at-x .x .given .1) (at-meet .meet .ensures) _ (c .before .if2 .taken) (c .stopped3 .ensures)
 
 returns-3 : tie.Need-returns-3
 returns-3 c =
-    let k = c .before .before .before .before .before .before .before .before .before .before .before .before .before .before .before .before .before .before .before in
-    tried-gen (k .args .z) (now (k .args .chain)) (now (k .args .list)) (k .args .i) (k .args .w) (k .args .n) (now (k .args .fan)) (now (k .args .ids)) (now (k .args .cdat)) (now (k .args .edge)) (k .args .there) (k .pre .1 .0) (k .args .k) (k .pre .1 .1) _ (c .before .before .before .before .before .before .before .before .before .before .before .before .entry-in .ensures) (c .before .before .before .before .before .before .before .before .before .before .before .if1 .left) _ (c .before .before .before .before .before .before .before .before .before .before .commit-in .ensures) _ (c .before .before .before .before .before .before .before .before .x .given .1) _ (c .before .before .before .before .before .before .meet .ensures) (c .before .before .before .before .if2 .left) _ (c .before .before .before .right .ensures) _ (c .before .if3 .taken) (c .stopped4 .ensures)
+    let at-right = c .before .before .before in
+    let at-meet = at-right .before .before .before in
+    let at-x = at-meet .before .before in
+    let at-if1 = at-x .before .before .before in
+    let start = at-if1 .before .before .before .before .before .before .before .before in
+    tried-gen _ _ _ _ _ _ _ _ _ _ _ (start .pre .1 .0) _ (start .pre .1 .1) (at-if1 .before .entry-in .ensures) (at-if1 .if1 .left)
+    (at-x .before .before .commit-in .ensures) (at-x .x .given .1) (at-meet .meet .ensures) (at-right .before .if2 .left)
+    (at-right .right .ensures) _ (c .before .if3 .taken) (c .stopped4 .ensures)
 
 returns-4 : tie.Need-returns-4
 returns-4 c =
-    let k = c .before .before .before .before .before .before .before .before .before .before .before .before .before in
-    let z : ⊥ = tried-none (k .args .z) (now (k .args .chain)) (now (k .args .list)) (k .args .i) (k .args .w) (k .args .n) (now (k .args .fan)) (now (k .args .ids)) (now (k .args .cdat)) (now (k .args .edge)) (k .args .there) (k .pre .1 .0) (k .args .k) (k .pre .1 .1) _ (c .before .before .before .before .before .before .entry-in .ensures) (c .before .before .before .before .before .if1 .left) _ (c .before .before .before .before .commit-in .ensures) _ (c .before .before .r .given .1) in
+    let at-r = c .before .before in
+    let at-if1 = at-r .before .before .before in
+    let start = at-if1 .before .before .before .before .before .before .before .before in
+    let z : ⊥ = tried-none _ _ _ _ _ _ _ _ _ _ _ (start .pre .1 .0) _ (start .pre .1 .1) (at-if1 .before .entry-in .ensures)
+    (at-if1 .if1 .left) (at-r .before .before .commit-in .ensures) (at-r .r .given .1) in
     absurd z
 
 returns-5 : tie.Need-returns-5
 returns-5 c =
-    let k = c .before .before .before .before .before .before .before .before .before .before .before .before .before .before .before .before .before .before in
-    tried-fine (k .args .z) (now (k .args .chain)) (now (k .args .list)) (k .args .i) (k .args .w) (k .args .n) (now (k .args .fan)) (now (k .args .ids)) (now (k .args .cdat)) (now (k .args .edge)) (k .args .there) (k .pre .1 .0) (k .args .k) (k .pre .1 .1) _ (c .before .before .before .before .before .before .before .before .before .before .before .entry-in .ensures) (c .before .before .before .before .before .before .before .before .before .before .if1 .left) _ (c .before .before .before .before .before .before .before .before .before .commit-in .ensures) _ (c .before .before .before .before .before .before .before .x .given .1) _ (c .before .before .before .before .before .meet .ensures) (c .before .before .before .if2 .left) _ (c .before .before .right .ensures) _ (c .if3 .left) refl refl refl
+    let at-if2 = c .before .before .before in
+    let at-x = at-if2 .before .before .before .before in
+    let at-if1 = at-x .before .before .before in
+    let start = at-if1 .before .before .before .before .before .before .before .before in
+    tried-fine _ _ _ _ _ _ _ _ _ _ _ (start .pre .1 .0) _ (start .pre .1 .1) (at-if1 .before .entry-in .ensures) (at-if1 .if1 .left)
+    (at-x .before .before .commit-in .ensures) (at-x .x .given .1) (at-if2 .before .before .meet .ensures) (at-if2 .if2 .left)
+    (c .before .before .right .ensures) _ (c .if3 .left) refl refl refl
 
 pub attempt-spec : {M : Type 1} → statement M
 attempt-spec =

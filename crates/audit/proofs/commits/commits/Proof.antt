@@ -2,7 +2,6 @@
 use mathlib.Core.Bool.{not}
 use mathlib.Core.Path.{ap}
 use native.Mathlib.Omega.{arith}
-use denote.Ref.{now}
 use Rattle.audit.proofs.Heading.{is-open}
 use Rattle.audit.proofs.Trying.{cut-made}
 use borrow.Author.Needs.{needs}
@@ -11,17 +10,20 @@ use Rattle.audit.proofs.commits.commits.Tie as tie
 
 add-part : tie.Need-add-part
 add-part c =
-    let k = c .before .before .before .before .before in
-    omega (arith, is-open (k .args .z) (now (k .args .chain)) (now (k .args .list)) (k .args .i) (k .args .f) (k .pre .1 .0 .1) .fitted .narrow)
+    let start = c .before .before .before .before .before in
+    omega (arith, is-open _ _ _ _ (start .pre .1 .0 .1) .fitted .narrow)
 
 scan-requires : tie.Need-scan-requires
 scan-requires c κs =
-    let k = c .before .before .before .before .before .before .before .before .before .before in (
-      k .pre .0,
+    let at-start = c .before .before .before in
+    let at-part2 = at-start .before .before in
+    let start = at-part2 .before .before .before .before .before in (
+      start .pre .0,
       (
-        cut-made (k .args .z) (now (k .args .chain)) (now (k .args .list)) (k .args .i) (k .pre .1 .0 .0) (k .args .f) (k .pre .1 .0 .1) (k .args .s) (k .pre .1 .0 .2) (c .before .before .before .before .before .before .part .result) (c .before .before .before .before .before .part2 .result) (c .before .before .before .before .part3 .result) (c .before .part4 .result) (not (c .missing .result))
-            (c .before .before .before .before .before .before .part .ensures) (c .before .before .before .before .before .part2 .ensures) (c .before .before .before .before .part3 .ensures) _ _ (c .before .before .before .start .ensures) (c .before .before .size .ensures) (c .before .part4 .ensures) (ap not (c .missing .ensures)),
-        k .pre .1 .1,
+        cut-made _ _ _ _ (start .pre .1 .0 .0) (start .pre .1 .0 .1) _ (start .pre .1 .0 .2) _ _ _ _
+            (at-part2 .before .part .ensures) (at-part2 .part2 .ensures) (at-start .before .part3 .ensures)
+            (at-start .start .ensures) (c .before .before .size .ensures) (c .before .part4 .ensures) (ap not (c .missing .ensures)),
+        start .pre .1 .1,
       ),
     )
 

@@ -11,63 +11,73 @@ use Rattle.audit.proofs.commits.scan.Statement.{statement}
 use Rattle.audit.proofs.commits.scan.Tie as tie
 
 abbrev Inv-loop : tie.InvT-loop
-Inv-loop chain list z starts firsts rows i fan ids cdat edge there w n top counts₀ highest₀ k₀ counts highest k = Trying z chain list i k highest counts
+Inv-loop chain list z starts firsts rows i fan ids cdat edge there w n top counts₀ highest₀ k₀ counts highest k =
+    Trying z chain list i k highest counts
 
 abbrev μ-loop : tie.MeasureT-loop
 μ-loop chain list z starts firsts rows i fan ids cdat edge there w n top counts₀ highest₀ k₀ counts highest k = n - k
 
 loop-holds : tie.Need-loop-holds Inv-loop μ-loop
-loop-holds c = let k = c .before .before .before .before .before .before in try-begins (k .args .z) (now (k .args .chain)) (now (k .args .list)) (k .args .i) _ _ (k .pre .1 .1 .0) (k .pre .1 .1 .1)
+loop-holds c =
+    let start = c .before .before .before .before .before .before in
+    try-begins _ _ _ _ (start .pre .1 .1 .0) (start .pre .1 .1 .1)
 
 attempt-requires : tie.Need-attempt-requires Inv-loop μ-loop
-attempt-requires c κs = let k = c .before .before .before .before .before .before .before .before in (k .pre .0, (k .pre .1 .0, c .loop-test .taken))
+attempt-requires c κs =
+    let start = c .before .before .before .before .before .before .before .before in
+    (start .pre .0, (start .pre .1 .0, c .loop-test .taken))
 
 returns : tie.Need-returns Inv-loop μ-loop
 returns c =
-    let k = c .before .before .before .before .before .before .before .before .before .before .before in
-    let o = c .before .before .before .before .loop in
-    let h = c .before .before .before .loop-test .taken in
-    let n = k .pre .1 .0 .count ∙ sym (count-of (k .args .z) (now (k .args .chain)) (now (k .args .list)) (k .args .i) (k .pre .1 .0 .inner) (k .pre .1 .0 .opens)) in
-    try-stops (k .args .z) (now (k .args .chain)) (now (k .args .list)) (k .args .i) (k .pre .1 .0 .below) _ _ _ (o .inv) (omega arith) _ (c .before .before .attempt .ensures) _ (c .if1 .taken) refl refl
+    let at-loop = c .before .before .before .before in
+    let start = at-loop .before .before .before .before .before .before .before in
+    let n = start .pre .1 .0 .count ∙ sym (count-of _ _ _ _ (start .pre .1 .0 .opens)) in
+    try-stops _ _ _ _ (start .pre .1 .0 .below) (at-loop .loop .inv) (omega arith) (c .before .before .attempt .ensures) _
+    (c .if1 .taken) refl refl
 
 add-counts : tie.Need-add-counts Inv-loop μ-loop
 add-counts c =
-    let k = c .before .before .before .before .before .before .before .before .before .before .before .before in
-    let o = c .before .before .before .before .before .loop in
-    let h = c .before .before .before .before .loop-test .taken in
-    let n = k .pre .1 .0 .count ∙ sym (count-of (k .args .z) (now (k .args .chain)) (now (k .args .list)) (k .args .i) (k .pre .1 .0 .inner) (k .pre .1 .0 .opens)) in
-    omega (arith, try-few (k .args .z) (now (k .args .chain)) (now (k .args .list)) (k .args .i) _ _ _ (k .pre .0) (k .pre .1 .0 .below) (o .k) (omega arith), try-small (k .args .z) (now (k .args .chain)) (now (k .args .list)) (k .args .i) (k .pre .1 .0 .below) _ _ _ (o .inv) (omega arith) _ (c .before .before .before .attempt .ensures) (c .before .if1 .left) _ (c .key .ensures .0) (c .key .ensures .1))
+    let at-attempt = c .before .before .before in
+    let start = at-attempt .before .before .before .before .before .before .before .before .before in
+    let o = at-attempt .before .before .loop in
+    let n = start .pre .1 .0 .count ∙ sym (count-of _ _ _ _ (start .pre .1 .0 .opens)) in
+    omega (
+      arith,
+      try-few (start .args .z) (now (start .args .chain)) (now (start .args .list)) (start .args .i) (start .pre .0)
+          (start .pre .1 .0 .below) (o .k) (omega arith),
+      try-small _ _ _ _ (start .pre .1 .0 .below) (o .inv) (omega arith) (at-attempt .attempt .ensures) (c .before .if1 .left)
+          (c .key .ensures .0) (c .key .ensures .1),
+    )
 
 add-k : tie.Need-add-k Inv-loop μ-loop
 add-k c =
-    let k = c .before .before .before .before .before .before .before .before .before .before .before .before .before .before in
-    let o = c .before .before .before .before .before .before .before .loop in
-    let h : o .k < k .args .n = c .before .before .before .before .before .before .loop-test .taken in
-    omega (arith, k .fits)
+    let at-loop-test = c .before .before .before .before .before .before in
+    let start = at-loop-test .before .before .before .before .before .before .before .before in
+    let h : at-loop-test .before .loop .k < start .args .n = at-loop-test .loop-test .taken in
+    omega (arith, start .fits)
 
 loop-less : tie.Need-loop-less Inv-loop μ-loop
 loop-less c =
-    let k = c .before .before .before .before .before .before .before .before .before .before .before .before .before .before in
-    let o = c .before .before .before .before .before .before .before .loop in
-    let h : o .k < k .args .n = c .before .before .before .before .before .before .loop-test .taken in
+    let at-loop-test = c .before .before .before .before .before .before in
+    let start = at-loop-test .before .before .before .before .before .before .before .before in
+    let h : at-loop-test .before .loop .k < start .args .n = at-loop-test .loop-test .taken in
     omega arith
 
 loop-again : tie.Need-loop-again Inv-loop μ-loop
 loop-again c =
-    let k = c .before .before .before .before .before .before .before .before .before .before .before .before .before .before in
-    let o = c .before .before .before .before .before .before .before .loop in
-    let h = c .before .before .before .before .before .before .loop-test .taken in
-    let n = k .pre .1 .0 .count ∙ sym (count-of (k .args .z) (now (k .args .chain)) (now (k .args .list)) (k .args .i) (k .pre .1 .0 .inner) (k .pre .1 .0 .opens)) in
-    try-next (k .args .z) (now (k .args .chain)) (now (k .args .list)) (k .args .i) (k .pre .1 .0 .below) _ _ _ (o .inv) (omega arith) _ (c .before .before .before .before .before .attempt .ensures) (c .before .before .before .if1 .left) _ (c .before .before .key .ensures .0) (c .before .before .key .ensures .1) (c .if2 .highest)
+    let at-key = c .before .before in
+    let at-attempt = at-key .before .before .before in
+    let start = at-attempt .before .before .before .before .before .before .before .before .before in
+    let n = start .pre .1 .0 .count ∙ sym (count-of _ _ _ _ (start .pre .1 .0 .opens)) in
+    try-next _ _ _ _ (start .pre .1 .0 .below) (at-attempt .before .before .loop .inv) (omega arith) (at-attempt .attempt .ensures)
+    (at-key .before .if1 .left) (at-key .key .ensures .0) (at-key .key .ensures .1)
     (⊎-elim (λ w. omega arith) (λ w. omega arith) (c .if2 .came))
 
 returns-2 : tie.Need-returns-2 Inv-loop μ-loop
 returns-2 c =
-    let k = c .before .before .before .before .before .before .before .before in
-    let o = c .before .loop in
-    let h = c .loop-test .left in
-    let n = k .pre .1 .0 .count ∙ sym (count-of (k .args .z) (now (k .args .chain)) (now (k .args .list)) (k .args .i) (k .pre .1 .0 .inner) (k .pre .1 .0 .opens)) in
-    try-ends (k .args .z) (now (k .args .chain)) (now (k .args .list)) (k .args .i) (k .pre .1 .0 .below) _ _ _ (o .inv) (omega arith) _ refl refl refl refl
+    let start = c .before .before .before .before .before .before .before .before in
+    let n = start .pre .1 .0 .count ∙ sym (count-of _ _ _ _ (start .pre .1 .0 .opens)) in
+    try-ends _ _ _ _ (start .pre .1 .0 .below) (c .before .loop .inv) (omega arith) _ refl refl refl refl
 
 pub scan-spec : {M : Type 1} → statement M
 scan-spec =

@@ -1,6 +1,5 @@
 -- `audit::heads::head` meets its contract.
 use mathlib.Core.Path.{_∙_}
-use denote.Ref.{now}
 use Rattle.words.proofs.Parts.{records-in}
 use Rattle.audit.proofs.Heading.{is-open, head-bases, head-base, head-sum, head-name}
 use borrow.Author.Needs.{needs}
@@ -8,24 +7,39 @@ use Rattle.audit.proofs.heads.head.Statement.{statement}
 use Rattle.audit.proofs.heads.head.Tie as tie
 
 returns : tie.Need-returns
-returns c = head-bases (c .before .before .before .before .before .args .z) (now (c .before .before .before .before .before .args .chain)) (now (c .before .before .before .before .before .args .list)) (c .before .before .before .before .before .args .i) (c .before .before .before .before .before .args .f) (c .before .before .before .before .before .pre .1 .1) (c .if1 .taken)
+returns c =
+    let start = c .before .before .before .before .before in
+    head-bases _ _ _ _ (start .pre .1 .1) (c .if1 .taken)
 
 bad-base-requires : tie.Need-bad-base-requires
 bad-base-requires c κs =
-    let f = c .before .before .before .before .before .before .before .args .f in
-    let q = c .before .before .before .before .before .before .before .pre .1 .2 in
-    let o = is-open (c .before .before .before .before .before .before .before .args .z) (now (c .before .before .before .before .before .before .before .args .chain)) (now (c .before .before .before .before .before .before .before .args .list)) (c .before .before .before .before .before .before .before .args .i) (c .before .before .before .before .before .before .before .args .f) (c .before .before .before .before .before .before .before .pre .1 .1) in
-    let r = records-in (c .before .before .before .before .before .before .before .args .s) (c .part .result) (f .base) (f .bases) (f .width) (rw q (o .fitted .base)) (c .part .ensures) in
-    (c .before .before .before .before .before .before .before .pre .0, (c .before .before .before .before .before .before .before .pre .1 .0, c .before .before .before .before .before .before .before .pre .1 .1, r .bytes ∙ rw q, c .before .before .if1 .left))
+    let start = c .before .before .before .before .before .before .before in
+    let q = start .pre .1 .2 in
+    let o = is-open _ _ _ _ (start .pre .1 .1) in
+    let r = records-in _ _ _ _ _ (rw q (o .fitted .base)) (c .part .ensures) in
+    (start .pre .0, (start .pre .1 .0, start .pre .1 .1, r .bytes ∙ rw q, c .before .before .if1 .left))
 
 returns-2 : tie.Need-returns-2
-returns-2 c = head-base (c .before .before .before .before .before .before .before .before .before .args .z) (now (c .before .before .before .before .before .before .before .before .before .args .chain)) (now (c .before .before .before .before .before .before .before .before .before .args .list)) (c .before .before .before .before .before .before .before .before .before .args .i) (c .before .before .before .before .before .before .before .before .before .args .f) (c .before .before .before .before .before .before .before .before .before .pre .1 .1) (c .before .before .before .before .if1 .left) _ (c .before .bad-base .ensures) (c .if2 .taken)
+returns-2 c =
+    let at-if1 = c .before .before .before .before in
+    let start = at-if1 .before .before .before .before .before in
+    head-base _ _ _ _ (start .pre .1 .1) (at-if1 .if1 .left) (c .before .bad-base .ensures) (c .if2 .taken)
 
 returns-3 : tie.Need-returns-3
-returns-3 c = head-sum (c .before .before .before .before .before .before .before .before .before .before .before .args .z) (now (c .before .before .before .before .before .before .before .before .before .before .before .args .chain)) (now (c .before .before .before .before .before .before .before .before .before .before .before .args .list)) (c .before .before .before .before .before .before .before .before .before .before .before .args .i) (c .before .before .before .before .before .before .before .before .before .before .before .args .f) (c .before .before .before .before .before .before .before .before .before .before .before .pre .1 .1) (c .before .before .before .before .before .before .if1 .left) _ (c .before .before .before .bad-base .ensures) (c .before .before .if2 .left) (now (c .before .before .before .before .before .before .before .before .before .before .before .args .s)) (c .before .before .before .before .before .before .before .before .before .before .before .pre .1 .2) _ (c .before .sum-in .ensures) (c .if3 .taken)
+returns-3 c =
+    let at-if2 = c .before .before in
+    let at-if1 = at-if2 .before .before .before .before in
+    let start = at-if1 .before .before .before .before .before in
+    head-sum _ _ _ _ (start .pre .1 .1) (at-if1 .if1 .left) (at-if2 .before .bad-base .ensures) (at-if2 .if2 .left) (start .pre .1 .2)
+    (c .before .sum-in .ensures) (c .if3 .taken)
 
 returns-4 : tie.Need-returns-4
-returns-4 c = head-name (c .before .before .before .before .before .before .before .before .before .before .before .before .args .z) (now (c .before .before .before .before .before .before .before .before .before .before .before .before .args .chain)) (now (c .before .before .before .before .before .before .before .before .before .before .before .before .args .list)) (c .before .before .before .before .before .before .before .before .before .before .before .before .args .i) (c .before .before .before .before .before .before .before .before .before .before .before .before .args .f) (c .before .before .before .before .before .before .before .before .before .before .before .before .pre .1 .1) (c .before .before .before .before .before .before .before .if1 .left) _ (c .before .before .before .before .bad-base .ensures) (c .before .before .before .if2 .left) (now (c .before .before .before .before .before .before .before .before .before .before .before .before .args .s)) (c .before .before .before .before .before .before .before .before .before .before .before .before .pre .1 .2) _ (c .before .before .sum-in .ensures) (c .before .if3 .left) _ (c .name-in .ensures)
+returns-4 c =
+    let at-if2 = c .before .before .before in
+    let at-if1 = at-if2 .before .before .before .before in
+    let start = at-if1 .before .before .before .before .before in
+    head-name _ _ _ _ (start .pre .1 .1) (at-if1 .if1 .left) (at-if2 .before .bad-base .ensures) (at-if2 .if2 .left)
+    (start .pre .1 .2) (c .before .before .sum-in .ensures) (c .before .if3 .left) (c .name-in .ensures)
 
 pub head-spec : {M : Type 1} → statement M
 head-spec =

@@ -16,27 +16,29 @@ abbrev μ-loop : tie.MeasureT-loop
 μ-loop chain list z firsts last g lo₀ hi₀ lo hi = hi - lo
 
 returns : tie.Need-returns Inv-loop μ-loop
-returns c = let k = c .before .before in (omega arith, omega (arith, k .pre .1 .0 (k .args .last) (omega arith)), k .pre .1 .1)
+returns c =
+    let start = c .before .before in
+    (omega arith, omega (arith, start .pre .1 .0 (start .args .last) (omega arith)), start .pre .1 .1)
 
 loop-holds : tie.Need-loop-holds Inv-loop μ-loop
 loop-holds c =
-    let k = c .before .before in
-    let n = countAt (k .args .z) (k .args .chain .now) (k .args .list .now) in
-    let h : k .args .g < before n (k .args .last) = omega (arith, k .pre .1 .0 (k .args .last) (omega arith)) in
-    (some-before n (k .args .last) (k .args .g) h, omega arith, none-before n (k .args .g), h)
+    let start = c .before .before in
+    let n = countAt (start .args .z) (start .args .chain .now) (start .args .list .now) in
+    let h : start .args .g < before n (start .args .last) = omega (arith, start .pre .1 .0 (start .args .last) (omega arith)) in
+    (some-before n _ _ h, omega arith, none-before n _, h)
 
 loop-again : tie.Need-loop-again Inv-loop μ-loop
 loop-again c =
-    let o = c .before .before .before .loop in
-    let k = c .before .before .before .before .before .before in
-    let e = k .pre .1 .0 (o .lo + (o .hi - o .lo) / 2) (omega arith) in
+    let at-loop = c .before .before .before in
+    let o = at-loop .loop in
+    let e = at-loop .before .before .before .pre .1 .0 (o .lo + (o .hi - o .lo) / 2) (omega arith) in
     (omega arith, omega arith, omega arith, o .inv .3)
 
 loop-again-2 : tie.Need-loop-again-2 Inv-loop μ-loop
 loop-again-2 c =
-    let o = c .before .before .before .loop in
-    let k = c .before .before .before .before .before .before in
-    let e = k .pre .1 .0 (o .lo + (o .hi - o .lo) / 2) (omega arith) in
+    let at-loop = c .before .before .before in
+    let o = at-loop .loop in
+    let e = at-loop .before .before .before .pre .1 .0 (o .lo + (o .hi - o .lo) / 2) (omega arith) in
     (omega arith, omega arith, o .inv .2, omega arith)
 
 returns-2 : tie.Need-returns-2 Inv-loop μ-loop

@@ -9,29 +9,33 @@ use Rattle.audit.proofs.meets.gen_at.Statement.{statement}
 use Rattle.audit.proofs.meets.gen_at.Tie as tie
 
 -- the first positions around g, and the place that is read
-around : (c : tie.After-file-of) →
-    (let y = c .before .before .before in
-    (getD (y .args .firsts .now) (c .file-of .result) 0 ≤ y .args .g) × (getD (y .args .firsts .now) (c .file-of .result) 0 ≤ getD (y .args .firsts .now) (c .file-of .result + 1) 0))
+around : (c : tie.After-file-of)
+    → (let start = c .before .before .before in
+    (getD (start .args .firsts .now) (c .file-of .result) 0 ≤ start .args .g)
+    × (getD (start .args .firsts .now) (c .file-of .result) 0 ≤ getD (start .args .firsts .now) (c .file-of .result + 1) 0))
 around c =
-    let y = c .before .before .before in
-    let e = c .file-of .ensures in
-    let i = c .file-of .result in
-    (omega (arith, y .pre .0 .first i (omega arith)), omega (arith, y .pre .0 .first i (omega arith), y .pre .0 .first (i + 1) (omega arith)))
+    let start = c .before .before .before in
+    let i = c .file-of .result in (
+      omega (arith, start .pre .0 .first i (omega arith)),
+      omega (arith, start .pre .0 .first i (omega arith), start .pre .0 .first (i + 1) (omega arith)),
+    )
 
-place : (c : tie.After-file-of) →
-    (let y = c .before .before .before in (y .args .g - getD (y .args .firsts .now) (c .file-of .result) 0) * (y .args .w + 16) + y .args .w + 8 ≤ 2147483648)
+place : (c : tie.After-file-of)
+    → (let start = c .before .before .before in
+    (start .args .g - getD (start .args .firsts .now) (c .file-of .result) 0) * (start .args .w + 16) + start .args .w + 8 ≤ 2147483648)
 place c =
-    let y = c .before .before .before in
+    let start = c .before .before .before in
     let e = c .file-of .ensures in
-    gen-room (y .args .z) (y .args .chain) (y .args .list .now) (y .pre .0) (c .file-of .result) (y .args .g) (omega arith) (e .1) (e .2) (y .args .w) (y .pre .1 .0)
+    gen-room (start .args .chain) (start .pre .0) _ _ (omega arith) (e .1) (e .2) (start .pre .1 .0)
 
 returns : tie.Need-returns
 returns c =
-    let y = c .before .before .before .before .before .before .before .before in
-    let f = c .before .before .before .before .before .file-of in
-    let x = c .before .part in
+    let at-file-of = c .before .before .before .before .before in
+    let start = at-file-of .before .before .before in
+    let f = at-file-of .file-of in
     ap (λ (n : ℕ). n / 4) (c .be32 .ensures)
-    ∙ gen-read (y .args .z) (y .args .chain) (y .args .list .now) (y .pre .0) (f .result) (y .args .g) (omega (arith, f .ensures .0, y .pre .1 .1)) (f .ensures .1) (f .ensures .2) (y .args .w) (x .result) (y .pre .1 .0) (x .ensures)
+    ∙ gen-read _ (start .pre .0) _ _ (omega (arith, f .ensures .0, start .pre .1 .1)) (f .ensures .1) (f .ensures .2) _
+    (start .pre .1 .0) (c .before .part .ensures)
 
 pub gen-at-spec : {M : Type 1} → statement M
 gen-at-spec =

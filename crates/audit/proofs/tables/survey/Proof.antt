@@ -19,64 +19,88 @@ abbrev μ-loop : tie.MeasureT-loop
 
 -- the list is not refused; there is a file at hand
 few : (c : tie.After-part Inv-loop μ-loop) → c .before .before .before .loop .k + 1 ≤ 256
-few c = omega (arith, c .before .before .loop-test .taken, c .before .before .before .before .before .before .pre .1 .few)
+few c =
+    let start = c .before .before .before .before .before .before in
+    omega (arith, c .before .before .loop-test .taken, start .pre .1 .few)
 
 -- what was cut is that file, and how it opens
-cut : (c : tie.After-part Inv-loop μ-loop) →
-    (let y = c .before .before .before .before .before .before in c .part .result .now ≡ partAt (y .args .z) (y .args .chain .now) (y .args .list .now) (c .before .before .before .loop .k))
+cut : (c : tie.After-part Inv-loop μ-loop)
+    → (let start = c .before .before .before .before .before .before in
+    c .part .result .now ≡ partAt (start .args .z) (start .args .chain .now) (start .args .list .now) (c .before .before .before .loop .k))
 cut c =
-    let y = c .before .before .before .before .before .before in
-    let o = c .before .before .before .loop in
-    part-is (y .args .z) (y .args .chain) (y .args .list .now) (y .args .n) (y .pre .1) (o .k) (o .at) (c .before .length-at .result)
-    (c .before .before .loop-test .taken) (o .inv .along .place) (c .before .length-at .ensures) (c .part .result) (c .part .ensures)
+    let at-loop = c .before .before .before in
+    part-is _ (at-loop .before .before .before .pre .1) _
+    (c .before .before .loop-test .taken) (at-loop .loop .inv .along .place) (c .before .length-at .ensures) _ (c .part .ensures)
 
-goes : (c : tie.After-open Inv-loop μ-loop) (v : Opening) → c .«open» .result ≡ v →
-    (let y = c .before .before .before .before .before .before .before in openAt (y .args .z) (y .args .chain .now) (y .args .list .now) (c .before .before .before .before .loop .k) ≡ v)
-goes c v e =
-    let y = c .before .before .before .before .before .before .before in
-    open-is (y .args .z) (y .args .chain .now) (y .args .list .now) (c .before .before .before .before .loop .k) (c .before .part .result .now) (c .«open» .result) v (cut (c .before)) (c .«open» .ensures) e
+goes : (c : tie.After-open Inv-loop μ-loop) {v : Opening} → c .«open» .result ≡ v
+    → (let start = c .before .before .before .before .before .before .before in
+    openAt (start .args .z) (start .args .chain .now) (start .args .list .now) (c .before .before .before .before .loop .k) ≡ v)
+goes c {v} e =
+    open-is _ _ _ _ (cut (c .before)) (c .«open» .ensures) e
 
 loop-holds : tie.Need-loop-holds Inv-loop μ-loop
-loop-holds c = let y = c .before .before in tabling-begins (y .args .z) (y .args .chain .now) (y .args .list .now) (y .args .n) (y .pre .1) _ _ _ refl refl refl refl refl
+loop-holds c = tabling-begins _ _ _ (c .before .before .pre .1) _ _ _ refl refl refl refl refl
 
 returns : tie.Need-returns Inv-loop μ-loop
 returns c =
-    let y = c .before .before .before .before .before .before .before .before .before .before .before in
-    let o = c .before .before .before .before .before .before .before .before .loop in
-    rw (c .of-file .ensures) (tabling-refused (y .args .z) (y .args .chain .now) (y .args .list .now) (y .args .n) (y .pre .1) (o .k) (o .at) (o .sum) (o .starts) (o .firsts) (o .rows) (o .inv) (y .pre .0) (c .before .before .before .before .before .before .before .loop-test .taken) _ (goes (c .before .before .before .before) _ (c .before .before .r .given .1)))
+    let at-r = c .before .before in
+    let at-loop-test = at-r .before .before .before .before .before in
+    let start = at-loop-test .before .before .before .before in
+    rw (c .of-file .ensures)
+    (tabling-refused _ _ _ (start .pre .1) (at-loop-test .before .loop .inv) (start .pre .0) (at-loop-test .loop-test .taken)
+    (goes (at-r .before .before) (at-r .r .given .1)))
 
 add-rows : tie.Need-add-rows Inv-loop μ-loop
 add-rows c =
-    let y = c .before .before .before .before .before .before .before .before .before .before .before in
-    let o = c .before .before .before .before .before .before .before .before .loop in
-    omega (arith, tabling-room (y .args .z) (y .args .chain .now) (y .args .list .now) (y .args .n) (y .pre .1) (o .k) (o .at) (o .sum) (o .starts) (o .firsts) (o .rows) (o .inv) (c .before .before .before .before .before .before .before .loop-test .taken) _ (goes (c .before .before .before .before) _ (c .before .before .f .given .1)))
+    let at-f = c .before .before in
+    let at-loop-test = at-f .before .before .before .before .before in
+    let start = at-loop-test .before .before .before .before in
+    omega (
+      arith,
+      tabling-room _ _ _ (start .pre .1) (at-loop-test .before .loop .inv) (at-loop-test .loop-test .taken)
+          (goes (at-f .before .before) (at-f .f .given .1)),
+    )
 
 add-at : tie.Need-add-at Inv-loop μ-loop
 add-at c =
-    let y = c .before .before .before .before .before .before .before .before .before .before .before in
-    let o = c .before .before .before .before .before .before .before .before .loop in
-    omega (arith, tabling-room (y .args .z) (y .args .chain .now) (y .args .list .now) (y .args .n) (y .pre .1) (o .k) (o .at) (o .sum) (o .starts) (o .firsts) (o .rows) (o .inv) (c .before .before .before .before .before .before .before .loop-test .taken) _ (goes (c .before .before .before .before) _ (c .before .before .f .given .1)), ap length (cut (c .before .before .before .before .before)))
+    let at-f = c .before .before in
+    let at-part = at-f .before .before .before in
+    let at-loop = at-part .before .before .before in
+    omega (
+      arith,
+      tabling-room _ _ _ (at-loop .before .before .before .pre .1) (at-loop .loop .inv)
+          (at-part .before .before .loop-test .taken) (goes (at-f .before .before) (at-f .f .given .1)),
+      ap length (cut at-part),
+    )
 
 add-sum : tie.Need-add-sum Inv-loop μ-loop
 add-sum c =
-    let y = c .before .before .before .before .before .before .before .before .before .before .before .before in
-    let o = c .before .before .before .before .before .before .before .before .before .loop in
-    omega (arith, tabling-room (y .args .z) (y .args .chain .now) (y .args .list .now) (y .args .n) (y .pre .1) (o .k) (o .at) (o .sum) (o .starts) (o .firsts) (o .rows) (o .inv) (c .before .before .before .before .before .before .before .before .loop-test .taken) _ (goes (c .before .before .before .before .before) _ (c .before .before .before .f .given .1)))
+    let at-f = c .before .before .before in
+    let at-loop-test = at-f .before .before .before .before .before in
+    let start = at-loop-test .before .before .before .before in
+    omega (
+      arith,
+      tabling-room _ _ _ (start .pre .1) (at-loop-test .before .loop .inv) (at-loop-test .loop-test .taken)
+          (goes (at-f .before .before) (at-f .f .given .1)),
+    )
 
 loop-less : tie.Need-loop-less Inv-loop μ-loop
-loop-less c = omega (arith, c .before .before .before .before .before .before .before .before .loop-test .taken)
+loop-less c =
+    let at-loop-test = c .before .before .before .before .before .before .before .before in
+    omega (arith, at-loop-test .loop-test .taken)
 
 loop-again : tie.Need-loop-again Inv-loop μ-loop
 loop-again c =
-    let y = c .before .before .before .before .before .before .before .before .before .before .before .before in
-    let o = c .before .before .before .before .before .before .before .before .before .loop in
-    tabling-next (y .args .z) (y .args .chain .now) (y .args .list .now) (y .args .n) (y .pre .1) (o .k) (o .at) (o .sum) (o .starts) (o .firsts) (o .rows) (o .inv) (c .before .before .before .before .before .before .before .before .loop-test .taken) _ (goes (c .before .before .before .before .before) _ (c .before .before .before .f .given .1)) _ (ap length (cut (c .before .before .before .before .before .before)))
+    let at-f = c .before .before .before in
+    let at-part = at-f .before .before .before in
+    let at-loop = at-part .before .before .before in
+    tabling-next _ _ _ (at-loop .before .before .before .pre .1) (at-loop .loop .inv)
+    (at-part .before .before .loop-test .taken) (goes (at-f .before .before) (at-f .f .given .1)) (ap length (cut at-part))
 
 returns-2 : tie.Need-returns-2 Inv-loop μ-loop
 returns-2 c =
-    let y = c .before .before .before .before .before in
-    let o = c .before .before .loop in
-    rw (c .at .ensures) (tabling-ends (y .args .z) (y .args .chain .now) (y .args .list .now) (y .args .n) (y .pre .1) (o .k) (o .at) (o .sum) (o .starts) (o .firsts) (o .rows) (o .inv) (y .pre .0) (c .before .loop-test .left))
+    let start = c .before .before .before .before .before in
+    rw (c .at .ensures) (tabling-ends _ _ _ (start .pre .1) (c .before .before .loop .inv) (start .pre .0) (c .before .loop-test .left))
 
 pub survey-spec : {M : Type 1} → statement M
 survey-spec =
@@ -95,18 +119,18 @@ survey-spec =
     (λ c. search needs)
     (λ c. search needs)
     add-rows
-    (λ c. omega (arith, few (c .before .before .before .before .before)))
-    (λ c. omega (arith, few (c .before .before .before .before .before)))
+    (λ c. let at-part = c .before .before .before .before .before in omega (arith, few at-part))
+    (λ c. let at-part = c .before .before .before .before .before in omega (arith, few at-part))
     add-at
     (λ c. search needs)
     add-sum
-    (λ c. omega (arith, few (c .before .before .before .before .before .before)))
-    (λ c. omega (arith, few (c .before .before .before .before .before .before)))
-    (λ c. omega (arith, few (c .before .before .before .before .before .before)))
-    (λ c. omega (arith, few (c .before .before .before .before .before .before)))
-    (λ c. omega (arith, few (c .before .before .before .before .before .before)))
-    (λ c. omega (arith, few (c .before .before .before .before .before .before)))
-    (λ c. omega (arith, few (c .before .before .before .before .before .before)))
+    (λ c. let at-part = c .before .before .before .before .before .before in omega (arith, few at-part))
+    (λ c. let at-part = c .before .before .before .before .before .before in omega (arith, few at-part))
+    (λ c. let at-part = c .before .before .before .before .before .before in omega (arith, few at-part))
+    (λ c. let at-part = c .before .before .before .before .before .before in omega (arith, few at-part))
+    (λ c. let at-part = c .before .before .before .before .before .before in omega (arith, few at-part))
+    (λ c. let at-part = c .before .before .before .before .before .before in omega (arith, few at-part))
+    (λ c. let at-part = c .before .before .before .before .before .before in omega (arith, few at-part))
     loop-less
     loop-again
     (λ c κs. search needs)

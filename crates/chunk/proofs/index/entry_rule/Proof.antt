@@ -21,11 +21,11 @@ returns-2 c = search (rows, searching, c .before .before .if1 .left) depth 20
 returns-3 : tie.Need-returns-3
 unfolding entryRule
 returns-3 c =
-    let m = c .before .before .before .before .before in
-    let a = m .before .before .before .args in
+    let at-if1 = c .before .before .before .before .before in
+    let a = at-if1 .before .before .before .args in
     let l = now (a .s) in
     let r : c .range-rule .result ≡ rangeRule (length l) (20 + 12 * chunks l) (offAt l (a .i)) (offAt l (a .i + 1)) = cc in
-    search (rows, searching, m .if1 .left) depth 20
+    search (rows, searching, at-if1 .if1 .left) depth 20
 
 pub entry-rule-spec : {M : Type 1} → statement M
 entry-rule-spec =

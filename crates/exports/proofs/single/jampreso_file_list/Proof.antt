@@ -6,7 +6,10 @@ use Rattle.exports.proofs.single.jampreso_file_list.Statement.{statemen
 use Rattle.exports.proofs.single.jampreso_file_list.Tie as tie
 
 returns : tie.Need-returns
-returns c = rw (← c .before .before .before .before .before .file-of .ensures) (c .total-flat .ensures ∙ ap flatTotal (c .before .before .before .list-at .ensures .0), c .before .before .before .list-at .ensures .1)
+returns c =
+    let at-list-at = c .before .before .before in
+    rw (← at-list-at .before .before .file-of .ensures)
+    (c .total-flat .ensures ∙ ap flatTotal (at-list-at .list-at .ensures .0), at-list-at .list-at .ensures .1)
 
 pub jampreso-file-list-spec : {M : Type 1} → statement M
 jampreso-file-list-spec =

@@ -1,6 +1,5 @@
 -- `exports::single::jampreso_file_open` meets its contract.
 use mathlib.Core.Path.{ap, _∙_}
-use denote.Ref.{now}
 use Rattle.flat.specs.Records.{flatOpened}
 use Rattle.flat.proofs.Backs.{opened}
 use borrow.Author.Needs.{needs}
@@ -8,7 +7,9 @@ use Rattle.exports.proofs.single.jampreso_file_open.Statement.{statemen
 use Rattle.exports.proofs.single.jampreso_file_open.Tie as tie
 
 returns : tie.Need-returns
-returns c = opened (now (c .before .before .before .args .s)) _ (λ i. c .before .before .shared-slice-known .given i .fits) (c .opened-flat .ensures ∙ ap flatOpened (c .before .«open» .ensures))
+returns c =
+    opened _ (λ i. c .before .before .shared-slice-known .given i .fits)
+    (c .opened-flat .ensures ∙ ap flatOpened (c .before .«open» .ensures))
 
 pub jampreso-file-open-spec : {M : Type 1} → statement M
 jampreso-file-open-spec =

@@ -6,7 +6,9 @@ use Rattle.exports.proofs.whole.jampreso_list.Statement.{statement}
 use Rattle.exports.proofs.whole.jampreso_list.Tie as tie
 
 returns : tie.Need-returns
-returns c = (c .total-flat .ensures ∙ ap flatTotal (c .before .before .before .list-at .ensures .0), c .before .before .before .list-at .ensures .1)
+returns c =
+    let at-list-at = c .before .before .before in
+    (c .total-flat .ensures ∙ ap flatTotal (at-list-at .list-at .ensures .0), at-list-at .list-at .ensures .1)
 
 pub jampreso-list-spec : {M : Type 1} → statement M
 jampreso-list-spec = tie.close (tie.spec

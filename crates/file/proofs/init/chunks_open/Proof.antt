@@ -19,26 +19,28 @@ returns c = search stages
 returns-2 : tie.Need-returns-2
 unfolding chunked
 returns-2 c =
-    let k = c .before .before in
-    let a = c .before .before .before .before .before .before .before .args in
+    let at-after = c .before .before .before in
+    let start = at-after .before .before .before .before in
+    let a = start .args in
     let l = now (a .s) in
-    let e : k .chunk-rules .result ≡ chunkRules (a .w) (a .b) (length l - offAt l (chunks l)) (a .x) =
-    k .chunk-rules .ensures ∙ ap (λ (n : ℕ). chunkRules (a .w) (a .b) n (a .x)) (k .before .after .ensures) in
+    let e : c .before .before .chunk-rules .result ≡ chunkRules (a .w) (a .b) (length l - offAt l (chunks l)) (a .x) =
+    c .before .before .chunk-rules .ensures ∙ ap (λ (n : ℕ). chunkRules (a .w) (a .b) n (a .x)) (at-after .after .ensures) in
     search stages
 
 returns-3 : tie.Need-returns-3
 unfolding chunked indexOf
 returns-3 c =
-    let k = c .before .before .before .before .before in
-    let z = c .before .before .before .before .before .before .before .before .before .before in
-    let a = z .args in
+    let at-size = c .before .before in
+    let at-chunk-rules = at-size .before .before .before in
+    let start = at-chunk-rules .before .before .before .before .before in
+    let a = start .args in
     let l = now (a .s) in
-    let e : k .chunk-rules .result ≡ chunkRules (a .w) (a .b) (length l - offAt l (chunks l)) (a .x) =
-    k .chunk-rules .ensures ∙ ap (λ (n : ℕ). chunkRules (a .w) (a .b) n (a .x)) (k .before .after .ensures) in
-    let q : a .x .oidf ≡ chunkOf l 0x4f494446 = ap (λ (x : Index). x .oidf) (z .pre .1 .0) in
-    let h : startOf (a .x .oidf) + sizeOf (a .x .oidf) ≤ length l = rw q (lies l 0x4f494446 (z .pre .0) .inside) in
+    let e : at-chunk-rules .chunk-rules .result ≡ chunkRules (a .w) (a .b) (length l - offAt l (chunks l)) (a .x) =
+    at-chunk-rules .chunk-rules .ensures ∙ ap (λ (n : ℕ). chunkRules (a .w) (a .b) n (a .x)) (at-chunk-rules .before .after .ensures) in
+    let q : a .x .oidf ≡ chunkOf l 0x4f494446 = ap (λ (x : Index). x .oidf) (start .pre .1 .0) in
+    let h : startOf (a .x .oidf) + sizeOf (a .x .oidf) ≤ length l = rw q (lies 0x4f494446 (start .pre .0) .inside) in
     let p : now (c .before .part .result) ≡ partOf l (a .x .oidf) =
-    cut-part (a .s) (c .before .part .result) (a .x .oidf) _ _ (c .before .before .before .start .ensures) (c .before .before .size .ensures) h (c .before .part .ensures) in
+    cut-part _ _ (a .x .oidf) (at-size .before .start .ensures) (at-size .size .ensures) h (c .before .part .ensures) in
     let f : c .fan-open .result ≡ fanned (a .tried) (a .w) (a .b) (a .x) (partOf l (a .x .oidf)) =
     c .fan-open .ensures ∙ ap (fanned (a .tried) (a .w) (a .b) (a .x)) p in
     search stages

@@ -16,19 +16,23 @@ returns c = search stages
 returns-2 : tie.Need-returns-2
 unfolding fanned
 returns-2 c =
-    let k = c .before .before in
-    let a = c .before .before .before .before .before .before .before .args in
-    let e : k .count-rules .result ≡ countRules (a .w) (last (now (a .p))) (a .x) = k .count-rules .ensures ∙ ap (λ (n : ℕ). countRules (a .w) n (a .x)) (k .before .be32 .ensures) in
+    let at-be32 = c .before .before .before in
+    let start = at-be32 .before .before .before .before in
+    let a = start .args in
+    let e : c .before .before .count-rules .result ≡ countRules (a .w) (last (now (a .p))) (a .x) =
+    c .before .before .count-rules .ensures ∙ ap (λ (n : ℕ). countRules (a .w) n (a .x)) (at-be32 .be32 .ensures) in
     search stages
 
 returns-3 : tie.Need-returns-3
 unfolding fanned
 returns-3 c =
-    let k = c .before .before in
-    let a = c .before .before .before .before .before .before .before .args in
-    let e : k .count-rules .result ≡ countRules (a .w) (last (now (a .p))) (a .x) = k .count-rules .ensures ∙ ap (λ (n : ℕ). countRules (a .w) n (a .x)) (k .before .be32 .ensures) in
+    let at-be32 = c .before .before .before in
+    let start = at-be32 .before .before .before .before in
+    let a = start .args in
+    let e : c .before .before .count-rules .result ≡ countRules (a .w) (last (now (a .p))) (a .x) =
+    c .before .before .count-rules .ensures ∙ ap (λ (n : ℕ). countRules (a .w) n (a .x)) (at-be32 .be32 .ensures) in
     let f : Open (c .file-of .result) ≡ Open (fileOf (a .w) (a .b) (a .x) (last (now (a .p)))) =
-    ap Open (c .file-of .ensures ∙ ap (fileOf (a .w) (a .b) (a .x)) (k .before .be32 .ensures)) in
+    ap Open (c .file-of .ensures ∙ ap (fileOf (a .w) (a .b) (a .x)) (at-be32 .be32 .ensures)) in
     search stages
 
 pub fan-open-spec : {M : Type 1} → statement M

@@ -6,7 +6,8 @@ use Rattle.file.proofs.init.file_of.Tie as tie
 
 returns : tie.Need-returns
 unfolding fileOf
-returns c = simp (c .start4 .ensures, c .before .start3 .ensures, c .before .before .start2 .ensures, c .before .before .before .start .ensures)
+returns c =
+    simp (c .start4 .ensures, c .before .start3 .ensures, c .before .before .start2 .ensures, c .before .before .before .start .ensures)
 
 pub file-of-spec : {M : Type 1} → statement M
 file-of-spec =

@@ -6,7 +6,15 @@ use Rattle.file.proofs.init.locate.Tie as tie
 
 returns : tie.Need-returns
 unfolding indexOf
-returns c = simp (c .find5 .ensures, c .before .find4 .ensures, c .before .before .find3 .ensures, c .before .before .before .find2 .ensures, c .before .before .before .before .find .ensures)
+returns c =
+    let at-find3 = c .before .before in
+    simp (
+      c .find5 .ensures,
+      c .before .find4 .ensures,
+      at-find3 .find3 .ensures,
+      at-find3 .before .find2 .ensures,
+      at-find3 .before .before .find .ensures,
+    )
 
 pub locate-spec : {M : Type 1} → statement M
 locate-spec =

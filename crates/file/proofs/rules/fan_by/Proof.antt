@@ -1,19 +1,18 @@
 -- `file::rules::fan_by` meets its contract.
 use mathlib.Core.Path.{refl, _∙_}
-use denote.Ref.{now}
 use Rattle.words.proofs.Rows.{hit, miss}
-use Rattle.file.specs.Table.{peak, peakBy}
+use Rattle.file.specs.Table.{peakBy}
 use borrow.Author.Needs.{needs}
 use Rattle.file.proofs.rules.fan_by.Statement.{statement}
 use Rattle.file.proofs.rules.fan_by.Tie as tie
 
 returns : tie.Need-returns
 unfolding peakBy
-returns c = c .fan .ensures ∙ hit (peak (now (c .before .before .before .args .p))) _ 255 (c .before .if1 .taken)
+returns c = c .fan .ensures ∙ hit _ _ 255 (c .before .if1 .taken)
 
 returns-2 : tie.Need-returns-2
 unfolding peakBy
-returns-2 c = miss (peak (now (c .before .before .args .p))) _ 255 255 (c .if1 .left) refl
+returns-2 c = miss _ _ 255 255 (c .if1 .left) refl
 
 pub fan-by-spec : {M : Type 1} → statement M
 fan-by-spec = tie.close (tie.spec

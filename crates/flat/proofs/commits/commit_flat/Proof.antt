@@ -6,7 +6,15 @@ use Rattle.flat.proofs.commits.commit_flat.Tie as tie
 
 returns : tie.Need-returns
 unfolding flatCommit
-returns c = simp (c .edge-word2 .ensures, c .before .edge-kind2 .ensures, c .before .before .edge-word .ensures, c .before .before .before .edge-kind .ensures, c .before .before .before .before .before .a .given .1)
+returns c =
+    let at-edge-kind = c .before .before .before in
+    simp (
+      c .edge-word2 .ensures,
+      c .before .edge-kind2 .ensures,
+      c .before .before .edge-word .ensures,
+      at-edge-kind .edge-kind .ensures,
+      at-edge-kind .before .before .a .given .1,
+    )
 
 returns-2 : tie.Need-returns-2
 unfolding flatCommit

@@ -6,10 +6,10 @@ use Rattle.flat.proofs.records.end_of.Statement.{statement}
 use Rattle.flat.proofs.records.end_of.Tie as tie
 
 returns : tie.Need-returns
-returns c = end-past (c .before .args .start) (c .before .args .size) (c .if1 .taken) (omega arith)
+returns c = end-past _ _ (c .if1 .taken) (omega arith)
 
 returns-2 : tie.Need-returns-2
-returns-2 c = end-fits (c .before .args .start) (c .before .args .size) (let h = c .if1 .left in omega arith)
+returns-2 c = end-fits _ _ (omega arith)
 
 pub end-of-spec : {M : Type 1} → statement M
 end-of-spec = tie.close (tie.spec

@@ -6,7 +6,9 @@ use Rattle.flat.proofs.records.record_of.Tie as tie
 
 returns : tie.Need-returns
 unfolding recordOf
-returns c = simp (c .present .ensures, c .before .before .size .ensures, c .before .before .before .start .ensures)
+returns c =
+    let at-size = c .before .before in
+    simp (c .present .ensures, at-size .size .ensures, at-size .before .start .ensures)
 
 pub record-of-spec : {M : Type 1} → statement M
 record-of-spec = tie.close (tie.spec

@@ -6,11 +6,15 @@ use Rattle.flat.proofs.walks.step_flat.Tie as tie
 
 returns : tie.Need-returns
 unfolding flatStep
-returns c = rw (c .before .before .before .before .phase-edge .ensures, c .before .before .before .before .before .phase-kind .ensures, c .before .before .a .given .1)
+returns c =
+    let at-a = c .before .before in
+    rw (at-a .before .before .phase-edge .ensures, at-a .before .before .before .phase-kind .ensures, at-a .a .given .1)
 
 returns-2 : tie.Need-returns-2
 unfolding flatStep
-returns-2 c = rw (c .before .before .before .phase-edge .ensures, c .before .before .before .before .phase-kind .ensures, c .before .a2 .given .1)
+returns-2 c =
+    let at-phase-edge = c .before .before .before in
+    rw (at-phase-edge .phase-edge .ensures, at-phase-edge .before .phase-kind .ensures, c .before .a2 .given .1)
 
 returns-3 : tie.Need-returns-3
 unfolding flatStep

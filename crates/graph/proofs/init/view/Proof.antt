@@ -8,16 +8,21 @@ use Rattle.graph.proofs.init.view.Statement.{statement}
 use Rattle.graph.proofs.init.view.Tie as tie
 
 returns : tie.Need-returns
-returns c = view-refused 32 (now (c .before .before .before .before .before .before .args .chain)) (now (c .before .before .before .before .before .before .args .list)) _ (c .before .before .before .check .ensures) _ _ (c .before .if1 .taken)
+returns c = view-refused 32 _ _ (c .before .before .before .check .ensures) _ _ (c .before .if1 .taken)
 
 cast-n : tie.Need-cast-n
-cast-n c = omega (arith, list-listed 32 (now (c .before .before .before .before .before .args .chain)) (now (c .before .before .before .before .before .args .list)) _ (c .before .before .check .ensures) (c .if1 .left) .few)
+cast-n c =
+    let start = c .before .before .before .before .before in
+    omega (
+      arith,
+      list-listed 32 (now (start .args .chain)) (now (start .args .list)) (c .before .before .check .ensures) (c .if1 .left) .few,
+    )
 
 pass-requires : tie.Need-pass-requires
-pass-requires c κs = list-listed 32 (now (c .before .before .before .before .before .args .chain)) (now (c .before .before .before .before .before .args .list)) _ (c .before .before .check .ensures) (c .if1 .left)
+pass-requires c κs = list-listed 32 _ _ (c .before .before .check .ensures) (c .if1 .left)
 
 returns-2 : tie.Need-returns-2
-returns-2 c = view-passed 32 (now (c .before .before .before .before .before .before .args .chain)) (now (c .before .before .before .before .before .before .args .list)) _ (c .before .before .before .check .ensures) _ _ _ (c .before .if1 .left) refl (c .pass .ensures)
+returns-2 c = view-passed 32 _ _ (c .before .before .before .check .ensures) (c .before .if1 .left) refl (c .pass .ensures)
 
 pub view-spec : {M : Type 1} → statement M
 view-spec =

@@ -1,5 +1,4 @@
 -- `graph::locate::locate` meets its contract.
-use denote.Ref.{now}
 use Rattle.graph.proofs.Spots.{locate-refused, locate-found, locate-out}
 use borrow.Author.Needs.{needs}
 use Rattle.graph.proofs.locate.locate.Statement.{statement}
@@ -7,18 +6,18 @@ use Rattle.graph.proofs.locate.locate.Tie as tie
 
 returns : tie.Need-returns
 returns c =
-    let y = c .before .before .before .before .before .before .before in
-    locate-refused 32 (now (y .args .chain)) (now (y .args .list)) (y .args .pos .0) _ (c .before .before .before .before .view .ensures) (c .if1 .taken)
+    let at-view = c .before .before .before .before in
+    locate-refused 32 _ _ _ (at-view .view .ensures) (c .if1 .taken)
 
 returns-2 : tie.Need-returns-2
 returns-2 c =
-    let y = c .before .before .before .before .before .before .before .before .before in
-    locate-found 32 (now (y .args .chain)) (now (y .args .list)) (y .args .pos .0) _ (c .before .before .before .before .before .before .view .ensures) (c .before .before .if1 .left) (c .before .if2 .taken)
+    let at-view = c .before .before .before .before .before .before in
+    locate-found 32 _ _ _ (at-view .view .ensures) (c .before .before .if1 .left) (c .before .if2 .taken)
 
 returns-3 : tie.Need-returns-3
 returns-3 c =
-    let y = c .before .before .before .before .before .before .before .before .before in
-    locate-out 32 (now (y .args .chain)) (now (y .args .list)) (y .args .pos .0) _ (c .before .before .before .before .before .before .view .ensures) (c .before .before .if1 .left) (c .before .if2 .left) _ (c .at .ensures)
+    let at-view = c .before .before .before .before .before .before in
+    locate-out 32 _ _ _ (at-view .view .ensures) (c .before .before .if1 .left) (c .before .if2 .left) (c .at .ensures)
 
 pub locate-spec : {M : Type 1} → statement M
 locate-spec = tie.close (tie.spec

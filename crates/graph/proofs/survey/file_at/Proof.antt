@@ -6,9 +6,8 @@ use Rattle.graph.proofs.survey.file_at.Tie as tie
 
 returns : tie.Need-returns
 returns c =
-    let y = c .before .before .before .before in
-    let a = y .args in
-    part-is (a .z) (a .chain) (a .list .now) (a .n) (y .pre .0) (a .k) (a .at) _ (y .pre .1 .0) (y .pre .1 .1) (c .before .length-at .ensures) (c .part .result) (c .part .ensures)
+    let start = c .before .before .before .before in
+    part-is _ (start .pre .0) _ (start .pre .1 .0) (start .pre .1 .1) (c .before .length-at .ensures) _ (c .part .ensures)
 
 pub file-at-spec : {M : Type 1} → statement M
 file-at-spec = tie.close (tie.spec

@@ -17,10 +17,11 @@ use Rattle.hasher.proofs.Hasher.update.Tie as tie
 returns : tie.Need-returns
 unfolding updated nextBlock nextWords nextCount opened
 returns c =
-    let a = c .before .before .before .before .before .before .before .args in
+    let start = c .before .before .before .before .before .before .before in
+    let a = start .args in
     let d : List ℕ = take (a .self .count % 64) (a .self .block) ++ a .s .now in
     let h : length d < 64 = simp (length-append, length-take) (omega arith) in
-    same (c .joined .ensures ∙ ap padded (sym (small-rest d h))) (sym (small compress (a .self .words) d h)) (c .before .before .wrapping-add-u64 .ensures)
+    same (c .joined .ensures ∙ ap padded (sym (small-rest d h))) (sym (small compress _ d h)) (c .before .before .wrapping-add-u64 .ensures)
 
 slice-aggregate-joined : tie.Need-slice-aggregate-joined
 slice-aggregate-joined c = simp length-take (omega arith)
@@ -31,7 +32,10 @@ joined-requires-2 c κs = simp length-take (omega arith)
 returns-2 : tie.Need-returns-2
 unfolding updated nextBlock nextWords nextCount opened rest
 returns-2 c =
-    let a = c .before .before .before .before .before .before .before .before .before .before .before .before .before .before .args in
+    let at-blocks2 = c .before .before .before .before in
+    let at-joined2 = at-blocks2 .before .before in
+    let start = at-joined2 .before .before .before .before .before .before .before .before in
+    let a = start .args in
     let s : List ℕ = a .s .now in
     let o : List ℕ = take (a .self .count % 64) (a .self .block) in
     let r : ℕ = 64 - a .self .count % 64 in
@@ -40,13 +44,12 @@ returns-2 c =
     let h : r ≤ length s = omega arith in
     let t : take (length s - r) (drop r s) ≡ drop r s = tail s r in
     let u : List ℕ = take (length s - r) (drop r s) in
-    same
-    (c .joined3 .ensures ∙ ap padded (tail u (64 * (length u / 64))) ∙ ap (λ (l : List ℕ). padded (rest l)) t ∙ ap padded (rest-fills o s r e h))
-    (c .before .before .blocks3 .ensures
-    ∙ ap (afterAll compress _) t
-    ∙ ap (λ (v : List ℕ). afterAll compress v (drop r s)) (c .before .before .before .before .blocks2 .ensures ∙ ap (afterAll compress _) (c .before .before .before .before .before .before .joined2 .ensures))
-    ∙ fills-up compress o s r e h (a .self .words))
-    (c .before .before .before .before .before .before .before .before .before .wrapping-add-u64 .ensures)
+    same (c .joined3 .ensures ∙ ap padded (tail u (64 * (length u / 64))) ∙ ap (λ (l : List ℕ). padded (rest l)) t
+    ∙ ap padded (rest-fills o s r e h))
+    (c .before .before .blocks3 .ensures ∙ ap (afterAll compress _) t
+    ∙ ap (λ (v : List ℕ). afterAll compress v (drop r s))
+    (at-blocks2 .blocks2 .ensures ∙ ap (afterAll compress _) (at-joined2 .joined2 .ensures)) ∙ fills-up compress o s r e h _)
+    (at-joined2 .before .before .before .wrapping-add-u64 .ensures)
 
 pub update-spec : {M : Type 1} → statement M
 update-spec =

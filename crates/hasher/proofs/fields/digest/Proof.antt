@@ -33,7 +33,7 @@ returns c =
     let w = c .before .before .args .t1 in
     let e : length w ≡ 5 = search needs in
     let q : l .i ≡ 5 = omega arith in
-    sym (take-all 20 (l .out) (omega arith)) ∙ rw q at (l .inv .2) ∙ ap bytes (take-all 5 w (omega arith))
+    sym (take-all 20 _ (omega arith)) ∙ rw q at (l .inv .2) ∙ ap bytes (take-all 5 w (omega arith))
 
 pub digest-spec : {M : Type 1} → statement M
 digest-spec =

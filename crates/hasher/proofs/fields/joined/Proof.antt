@@ -18,7 +18,8 @@ stored-requires c κs = simp length-take (omega arith)
 
 returns : tie.Need-returns
 returns c =
-    let a = c .before .before .before .before .args in
+    let start = c .before .before .before .before in
+    let a = start .args in
     let e : length (a .t1) ≡ 64 = search needs in
     c .stored2 .ensures
     ∙ ap (λ (o : List ℕ). paste o (a .n) (a .s .now) (length (a .s .now))) (c .before .stored .ensures)

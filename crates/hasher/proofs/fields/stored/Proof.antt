@@ -17,12 +17,13 @@ abbrev μ-loop : tie.MeasureT-loop
 μ-loop n s out₀ j₀ out j = length s - j
 
 loop-holds : tie.Need-loop-holds Inv-loop μ-loop
-loop-holds c = (search needs, paste-zero (c .args .old) (c .args .n) (c .args .s .now))
+loop-holds c = (search needs, paste-zero _ (c .args .n) (c .args .s .now))
 
 loop-again : tie.Need-loop-again Inv-loop μ-loop
 loop-again c =
-    let l = c .before .before .loop in
-    let a = c .before .before .before .args in
+    let at-loop = c .before .before in
+    let l = at-loop .loop in
+    let a = at-loop .before .args in
     let e : length (a .old) ≡ 64 = search needs in (
       omega arith,
       ap (λ (o : List ℕ). set o (a .n + l .j) (getD (a .s .now) (l .j) 0)) (l .inv .1)

@@ -3,7 +3,6 @@ use mathlib.Core.Path.{_≡_, refl}
 use lib.ListN.{length}
 use Prim.Native.Nat.{_-_}
 use borrow.Author.Needs.{needs}
-use denote.Ref.{now}
 use Rattle.steps.specs.Walks.{firstWalk, restOf, positions}
 use Rattle.parents.specs.Lists.{overlay}
 use Rattle.steps.proofs.Walking.{rest-parent, rest-stop, rest-end}
@@ -12,7 +11,9 @@ use Rattle.parents.proofs.listing.fill_in.Statement.{statement}
 use Rattle.parents.proofs.listing.fill_in.Tie as tie
 
 abbrev Inv-loop : tie.InvT-loop
-Inv-loop first second edge there out₀ phase₀ n₀ out phase n = (length out ≡ length out₀) × Filling (overlay (positions (firstWalk first second there edge)) out₀) (restOf first second there edge phase) n out
+Inv-loop first second edge there out₀ phase₀ n₀ out phase n =
+    (length out ≡ length out₀) × Filling (overlay (positions (firstWalk first second there edge)) out₀)
+    (restOf first second there edge phase) n out
 
 abbrev μ-loop : tie.MeasureT-loop
 μ-loop first second edge there out₀ phase₀ n₀ out phase n = length out₀ - n
@@ -22,16 +23,25 @@ unfolding restOf
 loop-holds c = (refl, fill-begins _ _)
 
 loop-again : tie.Need-loop-again Inv-loop μ-loop
-loop-again c = (search needs, fill-next _ _ _ _ (c .before .before .before .before .before .before .loop .inv .1) _ _ (rest-parent (c .before .before .before .before .before .before .before .before .before .args .first) (c .before .before .before .before .before .before .before .before .before .args .second) (c .before .before .before .before .before .before .before .before .before .args .there) (now (c .before .before .before .before .before .before .before .before .before .args .edge)) (c .before .before .before .before .before .before .loop .phase) (c .before .before .before .before .step-in .result) (c .before .before .before .before .step-in .ensures) _ (c .before .before .met .given .1)) (search needs))
+loop-again c =
+    let at-step-in = c .before .before .before .before in (
+      search needs,
+      fill-next (at-step-in .before .before .loop .inv .1) _ _
+          (rest-parent _ _ _ _ _ (at-step-in .step-in .ensures) (c .before .before .met .given .1)) (search needs),
+    )
 
 returns : tie.Need-returns Inv-loop μ-loop
-returns c = fill-stops _ _ _ _ (c .before .before .before .before .loop .inv .1) _ (rest-stop (c .before .before .before .before .before .before .before .args .first) (c .before .before .before .before .before .before .before .args .second) (c .before .before .before .before .before .before .before .args .there) (now (c .before .before .before .before .before .before .before .args .edge)) (c .before .before .before .before .loop .phase) (c .before .before .step-in .result) (c .before .before .step-in .ensures) _ (c .enum-told .given .1))
+returns c =
+    let at-step-in = c .before .before in
+    fill-stops (at-step-in .before .before .loop .inv .1) _ (rest-stop _ _ _ _ _ (at-step-in .step-in .ensures) (c .enum-told .given .1))
 
 returns-2 : tie.Need-returns-2 Inv-loop μ-loop
-returns-2 c = fill-stops _ _ _ _ (c .before .before .before .before .loop .inv .1) _ (rest-end (c .before .before .before .before .before .before .before .args .first) (c .before .before .before .before .before .before .before .args .second) (c .before .before .before .before .before .before .before .args .there) (now (c .before .before .before .before .before .before .before .args .edge)) (c .before .before .before .before .loop .phase) (c .before .before .step-in .result) (c .before .before .step-in .ensures) (c .enum-told2 .given .1))
+returns-2 c =
+    let at-step-in = c .before .before in
+    fill-stops (at-step-in .before .before .loop .inv .1) _ (rest-end _ _ _ _ _ (at-step-in .step-in .ensures) (c .enum-told2 .given .1))
 
 returns-3 : tie.Need-returns-3 Inv-loop μ-loop
-returns-3 c = fill-full _ _ _ _ (c .before .loop .inv .1) (search needs)
+returns-3 c = fill-full (c .before .loop .inv .1) (search needs)
 
 pub fill-in-spec : {M : Type 1} → statement M
 fill-in-spec =

@@ -11,29 +11,54 @@ use Rattle.parents.proofs.listing.list_at.Statement.{statement}
 use Rattle.parents.proofs.listing.list_at.Tie as tie
 
 edge-requires : tie.Need-edge-requires
-edge-requires c κs = commit-given (now (c .before .before .before .before .before .before .before .args .s)) (c .before .before .before .before .before .before .before .args .f) (c .before .before .before .before .before .before .before .args .pos .0) _ (c .before .before .before .before .commit-at .ensures) _ (c .before .before .c .given .1) .0 .fits
+edge-requires c κs =
+    let at-c = c .before .before in
+    commit-given _ _ _ (at-c .before .before .commit-at .ensures) (at-c .c .given .1) .0 .fits
 
 returns : tie.Need-returns
 unfolding totalBy
 returns c =
-    let k = commit-given (now (c .before .before .before .before .before .before .before .before .before .before .before .before .before .before .before .args .s)) (c .before .before .before .before .before .before .before .before .before .before .before .before .before .before .before .args .f) (c .before .before .before .before .before .before .before .before .before .before .before .before .before .before .before .args .pos .0) _ (c .before .before .before .before .before .before .before .before .before .before .before .before .commit-at .ensures) _ (c .before .before .before .before .before .before .before .before .before .before .c .given .1) in
-    let t = list-full (now (c .before .before .before .before .before .before .before .before .before .before .before .before .before .before .before .args .s)) (c .before .before .before .before .before .before .before .before .before .before .before .before .before .before .before .args .f) (c .before .before .before .before .before .before .before .before .before .before .before .before .before .before .before .args .pos .0) (now (c .before .before .before .before .before .before .before .before .before .before .before .before .before .before .before .args .out)) _ (total-plain (now (c .before .before .before .before .before .before .before .before .before .before .before .before .before .before .before .args .s)) (c .before .before .before .before .before .before .before .before .before .before .before .before .before .before .before .args .f) (c .before .before .before .before .before .before .before .before .before .before .before .before .before .before .before .args .pos .0) (k .0 .rule) _ _ (c .before .before .before .before .before .before .count-in .ensures ∙ rw (k .1, c .before .before .before .before .before .before .before .before .present .ensures, c .before .before .before .before .before .before .before .edge .ensures .bytes)) (c .before .before .before .before .n .given .1)) (c .before .before .if1 .taken) in
+    let at-n = c .before .before .before .before in
+    let at-edge = at-n .before .before .before in
+    let at-c = at-edge .before .before .before in
+    let start = at-c .before .before .before .before .before in
+    let k = commit-given _ _ _ (at-c .before .before .commit-at .ensures) (at-c .c .given .1) in
+    let t = list-full _ _ _ _
+    (total-plain (now (start .args .s)) (start .args .f) (start .args .pos .0) (k .0 .rule)
+    (at-n .before .before .count-in .ensures ∙ rw (k .1, at-edge .before .present .ensures, at-edge .edge .ensures .bytes))
+    (at-n .n .given .1)) (c .before .before .if1 .taken) in
     (ap Refused (c .at2 .ensures) ∙ t .0, t .1)
 
 returns-2 : tie.Need-returns-2
-returns-2 c = list-short (now (c .before .before .before .before .before .before .args .s)) (c .before .before .before .before .before .before .args .f) (c .before .before .before .before .before .before .args .pos .0) (now (c .before .before .before .before .before .before .args .out)) _ (total-misfit _ _ _ _ (commit-barred (now (c .before .before .before .before .before .before .args .s)) (c .before .before .before .before .before .before .args .f) (c .before .before .before .before .before .before .args .pos .0) _ (c .before .before .before .commit-at .ensures) _ (c .before .r .given .1)))
+returns-2 c =
+    list-short _ _ _ _ (total-misfit _ _ _ _ (commit-barred _ _ _ (c .before .before .before .commit-at .ensures) (c .before .r .given .1)))
 
 returns-3 : tie.Need-returns-3
 unfolding totalBy
 returns-3 c =
-    let k = commit-given (now (c .before .before .before .before .before .before .before .before .before .before .before .before .before .before .args .s)) (c .before .before .before .before .before .before .before .before .before .before .before .before .before .before .args .f) (c .before .before .before .before .before .before .before .before .before .before .before .before .before .before .args .pos .0) _ (c .before .before .before .before .before .before .before .before .before .before .before .commit-at .ensures) _ (c .before .before .before .before .before .before .before .before .before .c .given .1) in
-    list-short (now (c .before .before .before .before .before .before .before .before .before .before .before .before .before .before .args .s)) (c .before .before .before .before .before .before .before .before .before .before .before .before .before .before .args .f) (c .before .before .before .before .before .before .before .before .before .before .before .before .before .before .args .pos .0) (now (c .before .before .before .before .before .before .before .before .before .before .before .before .before .before .args .out)) _ (ap Refused (c .at .ensures) ∙ total-plain (now (c .before .before .before .before .before .before .before .before .before .before .before .before .before .before .args .s)) (c .before .before .before .before .before .before .before .before .before .before .before .before .before .before .args .f) (c .before .before .before .before .before .before .before .before .before .before .before .before .before .before .args .pos .0) (k .0 .rule) _ _ (c .before .before .before .before .before .count-in .ensures ∙ rw (k .1, c .before .before .before .before .before .before .before .present .ensures, c .before .before .before .before .before .before .edge .ensures .bytes)) (c .before .before .before .m .given .1))
+    let at-m = c .before .before .before in
+    let at-edge = at-m .before .before .before in
+    let at-c = at-edge .before .before .before in
+    let k = commit-given _ _ _ (at-c .before .before .commit-at .ensures) (at-c .c .given .1) in
+    list-short _ _ _ _
+    (ap Refused (c .at .ensures)
+    ∙ total-plain _ _ _ (k .0 .rule)
+    (at-m .before .before .count-in .ensures ∙ rw (k .1, at-edge .before .present .ensures, at-edge .edge .ensures .bytes))
+    (at-m .m .given .1))
 
 returns-4 : tie.Need-returns-4
 unfolding totalBy walkOf
 returns-4 c =
-    let k = commit-given (now (c .before .before .before .before .before .before .before .before .before .before .before .before .before .before .before .before .before .args .s)) (c .before .before .before .before .before .before .before .before .before .before .before .before .before .before .before .before .before .args .f) (c .before .before .before .before .before .before .before .before .before .before .before .before .before .before .before .before .before .args .pos .0) _ (c .before .before .before .before .before .before .before .before .before .before .before .before .before .before .commit-at .ensures) _ (c .before .before .before .before .before .before .before .before .before .before .before .before .c .given .1) in
-    list-whole (now (c .before .before .before .before .before .before .before .before .before .before .before .before .before .before .before .before .before .args .s)) (c .before .before .before .before .before .before .before .before .before .before .before .before .before .before .before .before .before .args .f) (c .before .before .before .before .before .before .before .before .before .before .before .before .before .before .before .before .before .args .pos .0) (now (c .before .before .before .before .before .before .before .before .before .before .before .before .before .before .before .before .before .args .out)) _ (total-plain (now (c .before .before .before .before .before .before .before .before .before .before .before .before .before .before .before .before .before .args .s)) (c .before .before .before .before .before .before .before .before .before .before .before .before .before .before .before .before .before .args .f) (c .before .before .before .before .before .before .before .before .before .before .before .before .before .before .before .before .before .args .pos .0) (k .0 .rule) _ _ (c .before .before .before .before .before .before .before .before .count-in .ensures ∙ rw (k .1, c .before .before .before .before .before .before .before .before .before .before .present .ensures, c .before .before .before .before .before .before .before .before .before .edge .ensures .bytes)) (c .before .before .before .before .before .before .n .given .1)) (c .before .before .before .before .if1 .left) _ (c .before .before .fill-in .ensures ∙ rw (k .1, c .before .before .before .before .before .before .before .before .before .before .present .ensures, c .before .before .before .before .before .before .before .before .before .edge .ensures .bytes))
+    let at-if1 = c .before .before .before .before in
+    let at-n = at-if1 .before .before in
+    let at-edge = at-n .before .before .before in
+    let at-c = at-edge .before .before .before in
+    let k = commit-given _ _ _ (at-c .before .before .commit-at .ensures) (at-c .c .given .1) in
+    list-whole _ _ _ _
+    (total-plain _ _ _ (k .0 .rule)
+    (at-n .before .before .count-in .ensures ∙ rw (k .1, at-edge .before .present .ensures, at-edge .edge .ensures .bytes))
+    (at-n .n .given .1)) (at-if1 .if1 .left)
+    (c .before .before .fill-in .ensures ∙ rw (k .1, at-edge .before .present .ensures, at-edge .edge .ensures .bytes))
 
 pub list-at-spec : {M : Type 1} → statement M
 list-at-spec =

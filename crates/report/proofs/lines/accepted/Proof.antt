@@ -7,7 +7,12 @@ use Rattle.report.proofs.lines.accepted.Tie as tie
 
 returns : tie.Need-returns
 unfolding line others
-returns c = c .before .before .before .before .before .before .before .before .before .before .before .before .before .before .before .word .ensures then c .before .before .before .before .before .before .before .before .before .before .before .figure .ensures then c .before .before .before .before .before .before .before .length .ensures then c .before .before .word2 .ensures
+returns c =
+    let at-length = c .before .before .before .before .before .before .before in
+    let at-figure = at-length .before .before .before .before in
+    let at-word-2 = at-figure .before .before .before .before in
+    at-word-2 .word .ensures then at-figure .figure .ensures
+    then at-length .length .ensures then c .before .before .word2 .ensures
 
 pub accepted-spec : {M : Type 1} → statement M
 accepted-spec =

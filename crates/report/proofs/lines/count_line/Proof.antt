@@ -11,8 +11,11 @@ use Rattle.report.proofs.lines.count_line.Tie as tie
 returns : tie.Need-returns
 unfolding line others countLine pickList
 returns c =
-    rw (lt-ltb _ _ (c .before .before .before .before .before .before .before .before .before .before .before .before .before .before .before .before .before .before .if1 .taken))
-    (c .before .before .before .before .before .before .before .before .before .before .before .before .before .before .before .word .ensures then c .before .before .before .before .before .before .before .before .before .before .before .key .ensures then c .before .before .before .before .before .before .before .figure .ensures then c .before .before .word2 .ensures)
+    let at-figure = c .before .before .before .before .before .before .before in
+    let at-key = at-figure .before .before .before .before in
+    let at-word-2 = at-key .before .before .before .before in
+    rw (lt-ltb _ _ (at-word-2 .before .before .before .if1 .taken))
+    (at-word-2 .word .ensures then at-key .key .ensures then at-figure .figure .ensures then c .before .before .word2 .ensures)
 
 returns-2 : tie.Need-returns-2
 unfolding line others countLine pickList

@@ -22,7 +22,9 @@ count-line-requires : tie.Need-count-line-requires Inv-loop μ-loop
 count-line-requires c κs = let p = c .before .before .before .loop .inv .1 in omega (arith, p .few, p .place, p .size)
 
 loop-again : tie.Need-loop-again Inv-loop μ-loop
-loop-again c = (omega arith, lines-more _ _ _ _ (c .before .before .before .before .before .before .loop .inv .1) (c .before .before .count-line .ensures))
+loop-again c =
+    let at-loop-2 = c .before .before .before .before .before .before in
+    (omega arith, lines-more _ _ _ _ (at-loop-2 .loop .inv .1) (c .before .before .count-line .ensures))
 
 same-length : tie.Need-same-length Inv-loop μ-loop
 same-length c = c .before .loop .inv .1 .size

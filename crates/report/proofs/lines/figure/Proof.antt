@@ -1,6 +1,5 @@
 -- `report::lines::figure` meets its contract.
 use native.Mathlib.Omega.{arith}
-use Rattle.text.specs.Text.{dec}
 use Rattle.text.proofs.Decimal.{dec-length}
 use Rattle.report.proofs.Putting.{puts, _then_}
 use borrow.Author.Needs.{needs}
@@ -9,9 +8,12 @@ use Rattle.report.proofs.lines.figure.Tie as tie
 
 returns : tie.Need-returns
 returns c =
-    let w = c .before .before .before .before .before .before .word .ensures in
-    let few = dec-length (c .before .before .before .before .before .before .before .before .before .before .args .n) (search needs) in
-    w then puts 20 _ _ (dec (c .before .before .before .before .before .before .before .before .before .before .args .n)) (omega (arith, w .place, w .size)) few (c .before .before .number .ensures .0) (c .before .before .number .ensures .1)
+    let at-word-2 = c .before .before .before .before .before .before in
+    let at-start = at-word-2 .before .before .before .before in
+    let w = at-word-2 .word .ensures in
+    let few = dec-length (at-start .args .n) (search needs) in
+    w then puts 20 _ _ _ (omega (arith, w .place, w .size)) few (c .before .before .number .ensures .0)
+    (c .before .before .number .ensures .1)
 
 pub figure-spec : {M : Type 1} → statement M
 figure-spec =

@@ -10,11 +10,15 @@ use Rattle.report.proofs.lines.key.Tie as tie
 
 returns : tie.Need-returns
 unfolding keyWord pickList
-returns c = rw (eq-eqb _ _ (c .before .before .before .before .before .if1 .taken)) (within (omega arith) (c .before .before .word .ensures))
+returns c =
+    let at-if1-2 = c .before .before .before .before .before in
+    rw (eq-eqb _ _ (at-if1-2 .if1 .taken)) (within (omega arith) (c .before .before .word .ensures))
 
 returns-2 : tie.Need-returns-2
 unfolding keyWord pickList
-returns-2 c = rw (ne-eqb _ _ (c .before .before .before .before .if1 .left)) (c .before .before .figure .ensures)
+returns-2 c =
+    let at-if1-2 = c .before .before .before .before in
+    rw (ne-eqb _ _ (at-if1-2 .if1 .left)) (c .before .before .figure .ensures)
 
 pub key-spec : {M : Type 1} → statement M
 key-spec =

@@ -8,11 +8,15 @@ use Rattle.report.proofs.lines.length.Tie as tie
 
 returns : tie.Need-returns
 unfolding lengthWord
-returns c = rw (c .before .before .before .before .before .l .given .1) (c .before .before .figure .ensures)
+returns c =
+    let at-l-2 = c .before .before .before .before .before in
+    rw (at-l-2 .l .given .1) (c .before .before .figure .ensures)
 
 returns-2 : tie.Need-returns-2
 unfolding lengthWord
-returns-2 c = rw (c .before .before .before .before .before .enum-told .given .1) (within (omega arith) (c .before .before .word .ensures))
+returns-2 c =
+    let at-enum-told = c .before .before .before .before .before in
+    rw (at-enum-told .enum-told .given .1) (within (omega arith) (c .before .before .word .ensures))
 
 pub length-spec : {M : Type 1} → statement M
 length-spec =

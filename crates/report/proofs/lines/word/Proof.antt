@@ -1,5 +1,4 @@
 -- `report::lines::word` meets its contract.
-use denote.Ref.{now}
 use native.Mathlib.Nat.{le-refl}
 use Rattle.report.proofs.Putting.{puts}
 use borrow.Author.Needs.{needs}
@@ -7,7 +6,9 @@ use Rattle.report.proofs.lines.word.Statement.{statement}
 use Rattle.report.proofs.lines.word.Tie as tie
 
 returns : tie.Need-returns
-returns c = puts _ (now (c .before .before .before .before .before .before .args .out)) (c .before .before .before .before .before .before .args .at) (now (c .before .before .before .before .before .before .args .s)) (c .before .before .before .before .before .before .pre) (le-refl _) (c .before .before .put .ensures .0) (c .before .before .put .ensures .1)
+returns c =
+    let at-start = c .before .before .before .before .before .before in
+    puts _ _ _ _ (at-start .pre) (le-refl _) (c .before .before .put .ensures .0) (c .before .before .put .ensures .1)
 
 pub word-spec : {M : Type 1} → statement M
 word-spec =

@@ -1,22 +1,42 @@
 -- `traverse::commits::attempt` meets its contract.
 use mathlib.Core.Path.{refl}
-use denote.Ref.{now}
 use Rattle.traverse.proofs.Scanning.{tried-entry, tried-none, tried-walk, tried-fine}
 use borrow.Author.Needs.{needs}
 use Rattle.traverse.proofs.commits.attempt.Statement.{statement}
 use Rattle.traverse.proofs.commits.attempt.Tie as tie
 
 returns : tie.Need-returns
-returns c = let k = c .before .before .before .before .before .before .before in tried-entry (record { width = k .args .w; fan = now (k .args .fan); ids = now (k .args .ids); rows = now (k .args .rows); edge = now (k .args .edge); there = k .args .there }) (k .args .n) (k .args .c) (k .pre .0) (k .pre .1) _ (c .before .before .entry-in .ensures) _ (c .stopped .ensures) (c .before .if1 .taken)
+returns c =
+    let start = c .before .before .before .before .before .before .before in
+    tried-entry _ (start .pre .0) (start .pre .1) (c .before .before .entry-in .ensures) _ (c .stopped .ensures) (c .before .if1 .taken)
 
 returns-2 : tie.Need-returns-2
-returns-2 c = let z : ⊥ = let k = c .before .before .before .before .before .before .before .before .before .before .before in tried-none (record { width = k .args .w; fan = now (k .args .fan); ids = now (k .args .ids); rows = now (k .args .rows); edge = now (k .args .edge); there = k .args .there }) (k .args .n) (k .args .c) (k .pre .0) (k .pre .1) _ (c .before .before .before .before .before .before .entry-in .ensures) (c .before .before .before .before .before .if1 .left) _ (c .before .before .before .before .commit-in .ensures) _ (c .before .before .r .given .1) in absurd z
+returns-2 c =
+    let at-r = c .before .before in
+    let at-if1 = at-r .before .before .before in
+    let start = at-if1 .before .before .before .before .before .before in
+    let z : ⊥ = tried-none _ (start .pre .0) (start .pre .1) (at-if1 .before .entry-in .ensures) (at-if1 .if1 .left)
+    (at-r .before .before .commit-in .ensures) (at-r .r .given .1) in
+    absurd z
 
 returns-3 : tie.Need-returns-3
-returns-3 c = let k = c .before .before .before .before .before .before .before .before .before .before .before .before .before .before .before in tried-walk (record { width = k .args .w; fan = now (k .args .fan); ids = now (k .args .ids); rows = now (k .args .rows); edge = now (k .args .edge); there = k .args .there }) (k .args .n) (k .args .c) (k .pre .0) (k .pre .1) _ (c .before .before .before .before .before .before .before .before .before .before .entry-in .ensures) (c .before .before .before .before .before .before .before .before .before .if1 .left) _ (c .before .before .before .before .before .before .before .before .commit-in .ensures) _ (c .before .before .before .before .before .before .x .given .1) _ (c .before .before .before .before .count-in .ensures) _ (c .before .before .k .given .1) _ (c .stopped3 .ensures)
+returns-3 c =
+    let at-k = c .before .before in
+    let at-x = at-k .before .before .before .before in
+    let at-if1 = at-x .before .before .before in
+    let start = at-if1 .before .before .before .before .before .before in
+    tried-walk _ (start .pre .0) (start .pre .1) (at-if1 .before .entry-in .ensures) (at-if1 .if1 .left)
+    (at-x .before .before .commit-in .ensures) (at-x .x .given .1) (at-k .before .before .count-in .ensures) (at-k .k .given .1) _
+    (c .stopped3 .ensures)
 
 returns-4 : tie.Need-returns-4
-returns-4 c = let k = c .before .before .before .before .before .before .before .before .before .before .before .before .before .before in tried-fine (record { width = k .args .w; fan = now (k .args .fan); ids = now (k .args .ids); rows = now (k .args .rows); edge = now (k .args .edge); there = k .args .there }) (k .args .n) (k .args .c) (k .pre .0) (k .pre .1) _ (c .before .before .before .before .before .before .before .before .before .entry-in .ensures) (c .before .before .before .before .before .before .before .before .if1 .left) _ (c .before .before .before .before .before .before .before .commit-in .ensures) _ (c .before .before .before .before .before .x .given .1) _ (c .before .before .before .count-in .ensures) _ (c .before .k2 .given .1) _ refl refl refl
+returns-4 c =
+    let at-x = c .before .before .before .before .before in
+    let at-if1 = at-x .before .before .before in
+    let start = at-if1 .before .before .before .before .before .before in
+    tried-fine _ (start .pre .0) (start .pre .1) (at-if1 .before .entry-in .ensures) (at-if1 .if1 .left)
+    (at-x .before .before .commit-in .ensures) (at-x .x .given .1) (c .before .before .before .count-in .ensures)
+    (c .before .k2 .given .1) _ refl refl refl
 
 pub attempt-spec : {M : Type 1} → statement M
 attempt-spec =

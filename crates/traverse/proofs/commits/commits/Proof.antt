@@ -8,18 +8,20 @@ use Rattle.traverse.proofs.commits.commits.Tie as tie
 
 scan-requires : tie.Need-scan-requires
 scan-requires c κs =
-    let k = c .before .before .before .before .before .before .before .before in
-    cut-holds (k .args .s) (k .args .f) (k .pre) (c .before .before .before .before .before .before .part .result) (c .before .before .before .before .before .part2 .result) (c .before .before .before .before .part3 .result) (c .before .part4 .result) (not (c .missing .result))
-    (c .before .before .before .before .before .before .part .ensures) (c .before .before .before .before .before .part2 .ensures) (c .before .before .before .before .part3 .ensures) _ _ (c .before .before .before .start .ensures) (c .before .before .size .ensures) (c .before .part4 .ensures)
+    let at-start = c .before .before .before in
+    let at-part = at-start .before .before .before in
+    cut-holds _ (at-part .before .before .pre) _ _ _ _ (at-part .part .ensures) (at-start .before .before .part2 .ensures)
+    (at-start .before .part3 .ensures) (at-start .start .ensures) (c .before .before .size .ensures) (c .before .part4 .ensures)
     (ap not (c .missing .ensures))
 
 returns : tie.Need-returns
 returns c =
-    let k = c .before .before .before .before .before .before .before .before .before in
-    cut-scanned (k .args .s) (k .args .f) (k .pre) (c .before .before .before .before .before .before .before .part .result) (c .before .before .before .before .before .before .part2 .result) (c .before .before .before .before .before .part3 .result) (c .before .before .part4 .result) (not (c .before .missing .result))
-    (c .before .before .before .before .before .before .before .part .ensures) (c .before .before .before .before .before .before .part2 .ensures) (c .before .before .before .before .before .part3 .ensures) _ _ (c .before .before .before .before .start .ensures) (c .before .before .before .size .ensures) (c .before .before .part4 .ensures)
-    (ap not (c .before .missing .ensures))
-    _ (c .scan .ensures)
+    let at-size = c .before .before .before in
+    let at-part3 = at-size .before .before in
+    let at-part = at-part3 .before .before in
+    cut-scanned _ (at-part .before .before .pre) _ _ _ _ (at-part .part .ensures) (at-part3 .before .part2 .ensures)
+    (at-part3 .part3 .ensures) (at-size .before .start .ensures) (at-size .size .ensures) (c .before .before .part4 .ensures)
+    (ap not (c .before .missing .ensures)) (c .scan .ensures)
 
 pub commits-spec : {M : Type 1} → statement M
 commits-spec =

@@ -17,38 +17,67 @@ abbrev μ-loop : tie.MeasureT-loop
 μ-loop fan ids rows edge there w n counts₀ highest₀ lowest₀ most₀ c₀ counts highest lowest most c = n - c
 
 loop-holds : tie.Need-loop-holds Inv-loop μ-loop
-loop-holds c = let k = c .before .before .before .before in scan-begins (record { width = k .args .w; fan = now (k .args .fan); ids = now (k .args .ids); rows = now (k .args .rows); edge = now (k .args .edge); there = k .args .there }) (k .args .n)
+loop-holds c =
+    let start = c .before .before .before .before in
+    scan-begins (record {
+      width = start .args .w;
+      fan = now (start .args .fan);
+      ids = now (start .args .ids);
+      rows = now (start .args .rows);
+      edge = now (start .args .edge);
+      there = start .args .there;
+    }) _
 
 attempt-requires : tie.Need-attempt-requires Inv-loop μ-loop
-attempt-requires c κs = (c .before .before .before .before .before .before .pre, c .loop-test .taken)
+attempt-requires c κs =
+    let start = c .before .before .before .before .before .before in
+    (start .pre, c .loop-test .taken)
 
 returns : tie.Need-returns Inv-loop μ-loop
-returns c = let k = c .before .before .before .before .before .before .before .before .before in let o = c .before .before .before .before .loop in scan-stops (record { width = k .args .w; fan = now (k .args .fan); ids = now (k .args .ids); rows = now (k .args .rows); edge = now (k .args .edge); there = k .args .there }) (k .args .n) (o .c) (o .highest) (o .lowest) (o .most) (o .counts) (o .inv) (c .before .before .before .loop-test .taken) _ (c .before .before .attempt .ensures) _ (c .if1 .taken) refl refl
+returns c =
+    let at-loop-test = c .before .before .before in
+    let start = at-loop-test .before .before .before .before .before .before in
+    scan-stops (at-loop-test .before .loop .inv) (at-loop-test .loop-test .taken) (c .before .before .attempt .ensures) _
+    (c .if1 .taken) refl refl
 
 add-counts : tie.Need-add-counts Inv-loop μ-loop
 add-counts c =
-    let k = c .before .before .before .before .before .before .before .before .before .before in let o = c .before .before .before .before .before .loop in
-    let z = scan-small (record { width = k .args .w; fan = now (k .args .fan); ids = now (k .args .ids); rows = now (k .args .rows); edge = now (k .args .edge); there = k .args .there }) (k .args .n) (o .c) (o .highest) (o .lowest) (o .most) (o .counts) (o .inv) (c .before .before .before .before .loop-test .taken) _ (c .before .before .before .attempt .ensures) (c .before .if1 .left) _ (c .key .ensures .0) (c .key .ensures .1) in
-    let l : o .c < k .args .n = c .before .before .before .before .loop-test .taken in
-    omega (arith, z, k .fits)
+    let at-attempt = c .before .before .before in
+    let start = at-attempt .before .before .before .before .before .before .before in
+    let o = at-attempt .before .before .loop in
+    let z = scan-small
+    (o .inv) (at-attempt .before .loop-test .taken) (at-attempt .attempt .ensures) (c .before .if1 .left)
+    (c .key .ensures .0) (c .key .ensures .1) in
+    let l : o .c < start .args .n = at-attempt .before .loop-test .taken in
+    omega (arith, z, start .fits)
 
 add-c : tie.Need-add-c Inv-loop μ-loop
-add-c c = let k = c .before .before .before .before .before .before .before .before .before .before .before .before .before .before .before in let o = c .before .before .before .before .before .before .before .before .before .before .loop in let l : o .c < k .args .n = c .before .before .before .before .before .before .before .before .before .loop-test .taken in omega (arith, k .fits)
+add-c c =
+    let at-loop-test = c .before .before .before .before .before .before .before .before .before in
+    let start = at-loop-test .before .before .before .before .before .before in
+    let l : at-loop-test .before .loop .c < start .args .n = at-loop-test .loop-test .taken in omega (arith, start .fits)
 
 loop-less : tie.Need-loop-less Inv-loop μ-loop
-loop-less c = let k = c .before .before .before .before .before .before .before .before .before .before .before .before .before .before .before in let o = c .before .before .before .before .before .before .before .before .before .before .loop in let l : o .c < k .args .n = c .before .before .before .before .before .before .before .before .before .loop-test .taken in omega arith
+loop-less c =
+    let at-loop-test = c .before .before .before .before .before .before .before .before .before in
+    let start = at-loop-test .before .before .before .before .before .before in
+    let l : at-loop-test .before .loop .c < start .args .n = at-loop-test .loop-test .taken in omega arith
 
 loop-again : tie.Need-loop-again Inv-loop μ-loop
 loop-again c =
-    let k = c .before .before .before .before .before .before .before .before .before .before .before .before .before .before .before in let o = c .before .before .before .before .before .before .before .before .before .before .loop in
-    scan-next (record { width = k .args .w; fan = now (k .args .fan); ids = now (k .args .ids); rows = now (k .args .rows); edge = now (k .args .edge); there = k .args .there }) (k .args .n) (o .c) (o .highest) (o .lowest) (o .most) (o .counts) (o .inv) (c .before .before .before .before .before .before .before .before .before .loop-test .taken) _ (c .before .before .before .before .before .before .before .before .attempt .ensures) (c .before .before .before .before .before .before .if1 .left) _ (c .before .before .before .before .before .key .ensures .0) (c .before .before .before .before .before .key .ensures .1)
-    (c .before .before .if2 .highest) (c .before .before .before .before .lower .result) (c .if3 .most)
-    (⊎-elim (λ w. omega arith) (λ w. omega arith) (c .before .before .if2 .came))
-    (c .before .before .before .before .lower .ensures)
+    let at-if2 = c .before .before in
+    let at-key = at-if2 .before .before .before in
+    let at-attempt = at-key .before .before .before in
+    let start = at-attempt .before .before .before .before .before .before .before in
+    scan-next (at-attempt .before .before .loop .inv) (at-attempt .before .loop-test .taken) (at-attempt .attempt .ensures)
+    (at-key .before .if1 .left) (at-key .key .ensures .0) (at-key .key .ensures .1)
+    (⊎-elim (λ w. omega arith) (λ w. omega arith) (at-if2 .if2 .came)) (at-if2 .before .before .lower .ensures)
     (⊎-elim (λ w. omega arith) (λ w. omega arith) (c .if3 .came))
 
 returns-2 : tie.Need-returns-2 Inv-loop μ-loop
-returns-2 c = let k = c .before .before .before .before .before .before in let o = c .before .loop in scan-ends (record { width = k .args .w; fan = now (k .args .fan); ids = now (k .args .ids); rows = now (k .args .rows); edge = now (k .args .edge); there = k .args .there }) (k .args .n) (o .c) (o .highest) (o .lowest) (o .most) (o .counts) (o .inv) (c .loop-test .left) _ refl refl refl refl refl refl
+returns-2 c =
+    let start = c .before .before .before .before .before .before in
+    scan-ends (c .before .loop .inv) (c .loop-test .left) _ refl refl refl refl refl refl
 
 pub scan-spec : {M : Type 1} → statement M
 scan-spec =

@@ -1,6 +1,5 @@
 -- `walk::Walk::step` meets its contract.
 use mathlib.Core.Path.{sym, _∙_}
-use denote.Ref.{now}
 use Rattle.walk.proofs.Steps.{step-out, step-in}
 use borrow.Author.Needs.{needs}
 use Rattle.walk.proofs.Walk.step.Statement.{statement}
@@ -8,13 +7,16 @@ use Rattle.walk.proofs.Walk.step.Tie as tie
 
 returns : tie.Need-returns
 returns c =
-    let y = c .before .before .before .before .before .before .before in
-    step-out 32 (y .args .chain) (now (y .args .list)) (y .args .self) _ (sym (c .before .before .before .locate .ensures) ∙ c .before .q .given .1)
+    let at-q = c .before in
+    let start = at-q .before .before .before .before .before .before in
+    step-out 32 (start .args .chain) _ _ (sym (at-q .before .before .locate .ensures) ∙ at-q .q .given .1)
 
 returns-2 : tie.Need-returns-2
 returns-2 c =
-    let y = c .before .before .before .before .before .before .before .before .before .before .before .before in
-    step-in 32 (y .args .chain) (now (y .args .list)) (y .args .self) _ (sym (c .before .before .before .before .before .before .before .before .locate .ensures) ∙ c .before .before .before .before .before .before .spot .given .1) (c .before .before .before .before .part .ensures) _ (c .before .step-at .ensures) _ (c .in-file .ensures)
+    let at-part = c .before .before .before .before in
+    let at-spot = at-part .before .before in
+    step-in 32 _ _ _ (sym (at-spot .before .before .locate .ensures) ∙ at-spot .spot .given .1) (at-part .part .ensures)
+    (c .before .step-at .ensures) (c .in-file .ensures)
 
 pub step-spec : {M : Type 1} → statement M
 step-spec =

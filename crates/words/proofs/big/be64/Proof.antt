@@ -10,7 +10,9 @@ returns : tie.Need-returns
 returns c = omega (arith, be-past 8 (now (c .before .before .args .s)) (c .before .before .args .at) (c .if1 .taken))
 
 returns-2 : tie.Need-returns-2
-returns-2 c = let a = c .before .before .before .before .args in
+returns-2 c =
+    let start = c .before .before .before .before in
+    let a = start .args in
     omega (arith, be-split 4 4 (now (a .s)) (a .at))
 
 pub be64-spec : {M : Type 1} → statement M

@@ -8,7 +8,8 @@ use Rattle.words.proofs.big.byte.Statement.{statement}
 use Rattle.words.proofs.big.byte.Tie as tie
 
 returns-2 : tie.Need-returns-2
-returns-2 c = (sym (List·getD-eq-default (now (c .before .before .args .s)) 0 {n = c .before .before .args .at} (c .if1 .left)), omega arith)
+returns-2 c =
+    (sym (List·getD-eq-default (now (c .before .before .args .s)) 0 {n = c .before .before .args .at} (c .if1 .left)), omega arith)
 
 pub byte-spec : {M : Type 1} → statement M
 byte-spec = tie.close (tie.spec

@@ -9,10 +9,11 @@ use Rattle.words.proofs.part.part.Statement.{statement}
 use Rattle.words.proofs.part.part.Tie as tie
 
 -- the records lie in the slice
-within : (c : tie.Then1) → c .before .before .before .args .at + c .before .before .before .args .count * c .before .before .before .args .w ≤ length (c .before .before .before .args .s .now)
+within : (c : tie.Then1)
+    → c .before .before .before .args .at + c .before .before .before .args .count * c .before .before .before .args .w
+    ≤ length (c .before .before .before .args .s .now)
 within c =
-    let a = c .before .before .before .args in
-    inside (a .s) (a .at) (a .count) (a .w) (c .before .room .ensures) (c .if1 .taken)
+    inside (c .before .before .before .args .s) _ _ _ (c .before .room .ensures) (c .if1 .taken)
 
 mul-e : tie.Need-mul-e
 mul-e c = omega (arith, within c)
@@ -25,15 +26,14 @@ part-result-end c = within c
 
 returns : tie.Need-returns
 returns c =
-    let a = c .before .before .before .before .args in
-    cut (a .s) (a .at) (a .count) (a .w) (c .before .before .room .ensures) (c .before .if1 .taken)
+    let at-room = c .before .before in
+    let a = at-room .before .before .args in
+    cut _ _ _ _ (at-room .room .ensures) (c .before .if1 .taken)
     (record { block = refl; start = omega arith; bytes = span (a .at) (a .count * a .w) (a .s .now) })
 
 returns-2 : tie.Need-returns-2
 returns-2 c =
-    let a = c .before .before .before .before .args in
-    uncut (a .s) (a .at) (a .count) (a .w) (c .before .before .room .ensures) (c .before .if1 .left)
-    (record { block = refl; start = omega arith; bytes = refl })
+    uncut _ _ _ _ (c .before .before .room .ensures) (c .before .if1 .left) (record { block = refl; start = omega arith; bytes = refl })
 
 pub part-spec : {M : Type 1} → statement M
 part-spec =
