@@ -1,3 +1,4 @@
 pub mod Reading
 pub mod Looking
 pub mod Exactly
+pub mod Saying

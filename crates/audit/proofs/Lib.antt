@@ -3,3 +3,4 @@ pub mod Meeting
 pub mod Heading
 pub mod Trying
 pub mod Filing
+pub mod Saying

@@ -1,2 +1,3 @@
 pub mod Fan
 pub mod Stages
+pub mod Saying

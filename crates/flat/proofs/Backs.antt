@@ -32,7 +32,8 @@ use Rattle.walk.specs.declared.Walk.{Walk}
 use Rattle.walk.proofs.Following.{keeps}
 use Rattle.flat.specs.declared.Opened.{Opened as Handed}
 use Rattle.flat.specs.declared.Step.{Step}
-use Rattle.flat.specs.Images.{phaseKind, phaseEdge, phaseOf, flatStep, flatStepped, walkOf, flatWalked}
+use Rattle.steps.specs.Said.{phaseKind, phaseEdge}
+use Rattle.flat.specs.Images.{phaseOf, flatStep, flatStepped, walkOf, flatWalked}
 use Rattle.flat.specs.Records.{endOf, edgeOf, fileOf, presentIn, recordOf, flatOpened, Returns}
 
 -- ── a record ──

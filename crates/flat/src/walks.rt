@@ -6,7 +6,8 @@ use steps::Phase;
 use types::graph::Position;
 use walk::Walk;
 ghost use mathlib.Core.Path.{_≡_};
-ghost use Rattle.flat.specs.Images.{phaseOf, phaseKind, phaseEdge, flatStep, flatStepped, flatWalked, walkOf, flatTotal};
+ghost use Rattle.steps.specs.Said.{phaseKind, phaseEdge};
+ghost use Rattle.flat.specs.Images.{phaseOf, flatStep, flatStepped, flatWalked, walkOf, flatTotal};
 
 // The phase of a number and an EDGE number; a number that is none of a phase counts as exhausted.
 pub fn phase_of(phase: u32, edge: usize) -> Phase

@@ -2,3 +2,4 @@ pub mod Passing
 pub mod Views
 pub mod Standing
 pub mod Spots
+pub mod Saying

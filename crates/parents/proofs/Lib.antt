@@ -1,2 +1,4 @@
 pub mod Walking
 pub mod Filling
+pub mod Determined
+pub mod Saying
