@@ -1,7 +1,6 @@
 -- A lookup in a chain whose files are in order finds an id exactly if some file stores it, at its lowest position.
 use Prim.Native.Nat.{ℕ, zero, suc, _+_, _-_, _≤_, _<_}
 use mathlib.Core.List.{List}
-use mathlib.Core.Bool.{true}
 use mathlib.Core.Path.{_≡_, refl, sym, ap, _∙_}
 use mathlib.Core.Logic.{⊎-elim}
 use native.Mathlib.Omega.{arith}
@@ -18,7 +17,7 @@ use Rattle.list.specs.List.{recordsOf, lengthAt}
 use Rattle.file.specs.declared.File.{File}
 use Rattle.file.specs.declared.Opening.{Opening}
 use Rattle.file.specs.declared.Opening.the-variants.{Open, Refused}
-use Rattle.fit.proofs.Opens.{opened as file-opened, rising}
+use Rattle.fit.proofs.Opens.{rising}
 use Rattle.access.specs.Lookup.{found, stored, Finds, Right, lookupOf as lookupIn}
 use Rattle.access.proofs.Halving.{found-same}
 use Rattle.access.proofs.Stores.{stored-long, stored-bytes, answers, both}
@@ -27,6 +26,7 @@ use Rattle.ask.specs.Lookups.{findIn, place, shift, findAt, lookFrom, lo
 use Rattle.ask.specs.Theorems.{storedIn, idOf, Sorted, Exact, Right as Promised, Agrees}
 use Rattle.ask.specs.declared.lookup.Found.{Found}
 use Rattle.ask.specs.declared.lookup.Found.the-variants.{Absent}
+use Rattle.graph.proofs.Passing.{file-opened, count-open}
 use Rattle.graph.proofs.Standing.{stands}
 
 place-same : (m i : ℕ) → place m ≡ place i → m ≡ i
@@ -80,21 +80,18 @@ module _ (z : ℕ) (c l : List ℕ) where
   unfolding partAt
   part-bytes bc k = bytes-part c (startAt z c l k) (lengthAt z l k) bc
 
+  -- 41 asks for ids of 20 bytes, and those of each file have as many
   wide : (k : ℕ) {f : File} → openAt z c l k ≡ Open f → f .width ≡ 20
-  unfolding openAt
-  wide k {f} e = eqb-true (f .width) 20 (file-opened true (partAt z c l k) e .known)
+  wide k {f} e = eqb-true (f .width) 20 (file-opened z c l k e .known)
 
   module _ (s : Sorted z c l) (bc : Bytes c) where
-    module _ (x : List ℕ) (bx : Bytes x) (w : length x ≡ 20) where
+    -- x has the width of the ids of each file
+    module _ (x : List ℕ) (bx : Bytes x) (w : (k : ℕ) (f : File) → openAt z c l k ≡ Open f → length x ≡ f .width) where
       -- file k is open: what it finds, else what the files after it say
       module _ (k : ℕ) (b : k < recordsOf z l) {f : File} (e : openAt z c l k ≡ Open f) where
         finds : Finds (partAt z c l k) f x (lookupIn (partAt z c l k) f x)
         unfolding openAt Right
-        finds = both (partAt z c l k) f x (part-bytes bc k) bx refl .1 e (s .ordered k b f e) (w ∙ sym (wide k e))
-
-        counts : countAt z c l k ≡ f .commits
-        unfolding countAt commitsOf
-        counts = rw e
+        finds = both (partAt z c l k) f x (part-bytes bc k) bx refl .1 e (s .ordered k b f e) (w k f e)
 
         -- a position of the file by its place there
         placed : (g : ℕ) → firstAt z c l k ≤ g → g < firstAt z c l (k + 1)
@@ -102,14 +99,14 @@ module _ (z : ℕ) (c l : List ℕ) where
         placed g a d =
             let h : g - firstAt z c l k < countAt z c l k = omega (arith, before-next (countAt z c l) k) in
             let q : firstAt z c l k + (g - firstAt z c l k) ≡ g = omega arith in
-            (omega (arith, counts), ap (idOf z c l) (sym q) ∙ id-at k (g - firstAt z c l k) b h e)
+            (omega (arith, count-open z c l k e), ap (idOf z c l) (sym q) ∙ id-at k (g - firstAt z c l k) b h e)
 
         open-step : {to : ℕ} {rest : Found} → firstAt z c l (k + 1) ≤ to → Lowest (idOf z c l) x (firstAt z c l (k + 1)) to rest
             → Lowest (idOf z c l) x (firstAt z c l k) to (shift (firstAt z c l k) (lookupIn (partAt z c l k) f x) rest)
         unfolding shift openAt
         open-step {to} {rest} t r =
             ⊎-elim (λ a. let p = finds .sound (a .0) (a .1) in
-            let h : a .0 < countAt z c l k = omega (arith, counts, p .0) in
+            let h : a .0 < countAt z c l k = omega (arith, count-open z c l k e, p .0) in
             rw (a .1) (here (firstAt z c l k + a .0) refl (omega arith) (omega (arith, before-next (countAt z c l) k))
             (id-at k (a .0) b h e ∙ p .1)
             (λ g y v q. let j = placed g y (omega (arith, before-next (countAt z c l) k)) in
@@ -117,7 +114,7 @@ module _ (z : ℕ) (c l : List ℕ) where
             (λ a. rw a (later (firstAt z c l k)
             (omega (arith, before-next (countAt z c l) k))
             (λ g y v q. (let j = placed g y v in finds .absent a (g - firstAt z c l k) (j .0) (sym (j .1) ∙ q))) r))
-            (answers (partAt z c l k) x e bx (w ∙ sym (wide k e)))
+            (answers (partAt z c l k) x e bx (w k f e))
 
       step : (k : ℕ) {to : ℕ} {rest : Found} → k < recordsOf z l → firstAt z c l (k + 1) ≤ to
           → Lowest (idOf z c l) x (firstAt z c l (k + 1)) to rest
@@ -140,18 +137,18 @@ module _ (z : ℕ) (c l : List ℕ) where
           step k (omega arith) (before-le (countAt z c l) (k + 1) (recordsOf z l) (omega arith))
           (along left (k + 1) (omega arith))
 
-      pub exact : Exact z c l x (lookupOf z c l x)
-      unfolding lookupOf _if_else_ before
-      exact =
-          rw (le-ltb 0 (opened z c l .number) (omega (arith, s .opens)), eq-not (length x) 20 w)
-          (exact-of (along (recordsOf z l) 0 (omega arith)))
+    pub exact : (x : List ℕ) → Bytes x → length x ≡ 20 → Exact z c l x (lookupOf z c l x)
+    unfolding lookupOf _if_else_ before
+    exact x bx w =
+        rw (le-ltb 0 (opened z c l .number) (omega (arith, s .opens)), eq-not (length x) 20 w)
+        (exact-of (along x bx (λ k f e. w ∙ sym (wide k e)) (recordsOf z l) 0 (omega arith)))
 
     -- the id at a position is an id
     module _ (g : ℕ) (h : g < commitsIn z c l) {f : File} (e : openAt z c l (fileOf z c l g) ≡ Open f) (b : posOf z c l g < f .commits) where
       id-long : length (idOf z c l g) ≡ 20
       unfolding idOf storedIn openAt
       id-long =
-          rw e (stored-long (file-opened true _ e) (rising _ e) (posOf z c l g) b
+          rw e (stored-long (file-opened z c l _ e) (rising _ e) (posOf z c l g) b
           ∙ wide (fileOf z c l g) e)
 
       id-bytes : Bytes (idOf z c l g)

@@ -2,7 +2,7 @@
 use Prim.Native.Nat.{ℕ, zero, suc, _+_, _-_, _*_, _/_, _≤_, _<_}
 use mathlib.Core.List.{List}
 use mathlib.Core.Bool.{true}
-use mathlib.Core.Path.{_≡_, refl, sym, ap, _∙_}
+use mathlib.Core.Path.{_≡_, sym, ap, _∙_}
 use mathlib.Core.Logic.{⊎-elim}
 use native.Mathlib.Omega.{arith}
 use native.Mathlib.Nat.{eq-or-lt-of-le}
@@ -16,7 +16,7 @@ use Rattle.types.specs.declared.refusal.Refusal.{Refusal}
 use Rattle.words.specs.Big.{be}
 use Rattle.words.specs.Part.{RecordsOf}
 use Rattle.words.specs.Sums.{before}
-use Rattle.words.proofs.Adds.{before-next, before-le, which-back, within-back}
+use Rattle.words.proofs.Adds.{before-next, which-back, within-back}
 use Rattle.words.proofs.Parts.{take-in, records-in}
 use Rattle.list.specs.List.{recordsOf, lengthAt}
 use Rattle.fit.specs.Fits.{rowsPart}
@@ -26,7 +26,7 @@ use Rattle.file.specs.declared.Opening.the-variants.{Open, Refused}
 use Rattle.fit.proofs.Opens.{opened}
 use Rattle.commit.specs.Commits.{commitOf}
 use Rattle.graph.specs.Chain.{placed, commitsOf, startAt, partAt, openAt, countAt, firstAt, fileOf, posOf, Listed}
-use Rattle.graph.proofs.Passing.{Along, along-begins, along-next, along-refused, along-ends, along-room, part-long, file-room}
+use Rattle.graph.proofs.Passing.{Along, along-begins, along-next, along-refused, along-ends, along-room, few-positions, part-long, file-room}
 use Rattle.audit.specs.Files.{genIn, genAt}
 use Rattle.audit.specs.Scans.{Filled, rowsIn, rowsAt, Tabled, Opens}
 
@@ -135,23 +135,7 @@ module _ (z : ℕ) (c l : List ℕ) where
               opens = below-more (λ (i : ℕ). (f : File) × (openAt z c l i ≡ Open f)) k (p .opens) (f, e);
             }
 
-  -- a pass can be at every file of an open chain
   module _ {s t r : List ℕ} (p : Tabled z c l s t r) where
-    along-at : (k : ℕ) → k ≤ recordsOf z l → (at : ℕ) × (sum : ℕ) × Along z c l (recordsOf z l) k at sum
-    along-at zero h = (0, 0, along-begins z c l (p .listed))
-    along-at (suc k) h =
-        let a = along-at k (omega arith) in
-        let o = p .opens k (omega arith) in
-        let b = along-next z c l (p .listed) (a .0) (a .1) (a .2) (omega arith) (o .0) (o .1) _ refl in
-        let q : k + 1 ≡ suc k = omega arith in
-        (a .0 + length (partAt z c l k), a .1 + o .0 .commits, rw q at b)
-
-    -- so the positions are few
-    pub few-positions : (k : ℕ) → k ≤ recordsOf z l → firstAt z c l k * 36 ≤ 1073741824
-    few-positions k h =
-        let a = along-at k h .2 in
-        omega (arith, a .small, a .place, a .total, before-le (lengthAt z l) k (recordsOf z l) h, p .listed .files, p .listed .most)
-
     -- file i, its record f, and a position g in it
     module _ (i g : ℕ) (h : i < recordsOf z l) (low : firstAt z c l i ≤ g) (high : g < firstAt z c l (i + 1)) where
       spot : firstAt z c l i + (g - firstAt z c l i) ≡ g
@@ -207,4 +191,4 @@ module _ {z : ℕ} (s : RefT (List ℕ)) {l : List ℕ} {starts firsts rows : Li
 
   -- the sums on the way fit
   pub gen-room : {w : ℕ} → w ≡ 20 → (g - getD firsts i 0) * (w + 16) + w + 8 ≤ 2147483648
-  gen-room e = rw e (omega (arith, few-positions z (s .now) l p (i + 1) (omega arith), p .first i (omega arith)))
+  gen-room e = rw e (omega (arith, few-positions z (s .now) l (p .listed) (i + 1) (omega arith), p .first i (omega arith)))

@@ -43,7 +43,7 @@ use Rattle.audit.specs.declared.commits.Tried.{Tried}
 use Rattle.audit.specs.declared.commits.Scanned.{Scanned}
 use Rattle.audit.proofs.Heading.{is-open}
 use Rattle.audit.proofs.Meeting.{met-rule, met-count, met-highest}
-use Rattle.audit.proofs.Tabling.{few-positions}
+use Rattle.graph.proofs.Passing.{few-positions}
 
 -- ── one commit ──
 
@@ -229,7 +229,7 @@ module _ (z : ℕ) (c l : List ℕ) (i : ℕ) where
   -- how many positions there are up to commit k
   pub try-few : {starts firsts rows : List ℕ} → Tabled z c l starts firsts rows → i < recordsOf z l → (k : ℕ) → k < countAt z c l i
       → (firstAt z c l i + k) * 36 ≤ 1073741824
-  try-few t b k h = omega (arith, few-positions z c l t (i + 1) (omega arith), before-next (countAt z c l) i)
+  try-few t b k h = omega (arith, few-positions z c l (t .listed) (i + 1) (omega arith), before-next (countAt z c l) i)
 
 -- ── a file's parts ──
 

@@ -5,6 +5,7 @@ use types::graph::Position;
 use types::refusal;
 use types::refusal::POSITION;
 use types::refusal::Refusal;
+use types::width::known;
 use words::big::be32;
 use words::part::part;
 ghost use mathlib.Core.Path.{_≡_};
@@ -50,7 +51,7 @@ fn parent_edge(raw: u32) -> ParentEdge
 fn row_rule(n: usize, w: usize, i: u32) -> u32
     ensures { λ r. ⌜ r ≡ rowRule w n i ⌝ }
 {
-    if w != 20 {
+    if !known(w) {
         return POSITION;
     }
     let r = w + 16;

@@ -7,8 +7,7 @@ use lib.ListN.{getD}
 use Rattle.list.specs.List.{recordsOf}
 use Rattle.file.specs.declared.Opening.{Opening}
 use Rattle.graph.specs.Chain.{partAt, openAt}
-use Rattle.graph.proofs.Passing.{open-is, part-is}
-use Rattle.audit.proofs.Tabling.{few-positions}
+use Rattle.graph.proofs.Passing.{few-positions, open-is, part-is}
 use Rattle.audit.proofs.Filing.{table-length, no-refusal, Filing, filing-begins, filing-head, filing-commit, filing-next, filing-ends}
 use Rattle.audit.proofs.verify_from.Statement.{statement}
 use Rattle.audit.proofs.verify_from.Tie as tie
@@ -131,7 +130,7 @@ accepted-requires : tie.Need-accepted-requires Inv-loop μ-loop
 accepted-requires c κs =
     let start = c .before .before .before .before .before in
     let h : start .args .n ≤ recordsOf (start .args .z) (start .args .list .now) = omega (arith, start .pre .1 .0 .0) in
-    omega (arith, start .pre .0 .first _ h, few-positions _ _ _ (start .pre .0) _ h)
+    omega (arith, start .pre .0 .first _ h, few-positions _ _ _ (start .pre .0 .listed) _ h)
 
 returns-4 : tie.Need-returns-4 Inv-loop μ-loop
 returns-4 c =

@@ -1,6 +1,6 @@
 -- `commit::commit_in` meets its contract.
 use Prim.Native.Nat.{_+_, _*_, _≤_}
-use mathlib.Core.Path.{_≡_, ap, _∙_}
+use mathlib.Core.Path.{ap, _∙_}
 use native.Mathlib.Omega.{arith}
 use lib.ListN.{length}
 use denote.Ref.{now}
@@ -13,9 +13,7 @@ use Rattle.commit.proofs.commit_in.Tie as tie
 
 -- the row is there
 there : (c : tie.Else1)
-    → (c .before .before .before .args .w ≡ 20)
-    × (c .before .before .before .args .pos .0 * (c .before .before .before .args .w + 16) + (c .before .before .before .args .w + 16)
-    ≤ length (now (c .before .before .before .args .cdat)))
+    → (let a = c .before .before .before .args in a .pos .0 * (a .w + 16) + (a .w + 16) ≤ length (now (a .cdat)))
 there c = row-there _ _ _ (zero-of (c .before .row-rule .ensures) (c .if1 .left))
 
 returns : tie.Need-returns

@@ -14,7 +14,7 @@ returns c = ap Refused (c .at .ensures) ∙ entry-out _ _ _ (c .before .before .
 add-part : tie.Need-add-part
 add-part c =
     let at-if1 = c .before .before .before in
-    omega (arith, answered _ _ _ _ (at-if1 .before .ask .ensures) (at-if1 .if1 .left) .width)
+    omega (arith, answered _ _ _ _ (at-if1 .before .ask .ensures) (at-if1 .if1 .left) .fits)
 
 returns-2 : tie.Need-returns-2
 returns-2 c =

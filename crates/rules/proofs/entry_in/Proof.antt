@@ -1,6 +1,6 @@
 -- `rules::entry_in` meets its contract.
 use native.Mathlib.Omega.{arith}
-use Rattle.fit.proofs.Fitting.{small-product}
+use Rattle.types.proofs.Widths.{small-product}
 use Rattle.rules.proofs.Entries.{entry-strange, entry-ids, entry-rows, entry-id, entry-bucket, entry-tree}
 use borrow.Author.Needs.{needs}
 use Rattle.rules.proofs.entry_in.Statement.{statement}
