@@ -1,4 +1,5 @@
--- `block::blocks` meets its contract.
+-- `block::blocks` meets its contract. The invariant: i ≤ n, and `w` is the words after the first i blocks of `s`. The measure is n - i. Each turn is
+-- one block more (`stepped`), and n is the count of whole blocks.
 use Prim.Native.Nat.{ℕ, _+_, _*_, _≤_, _-_, _/_}
 use mathlib.Core.Path.{_≡_, refl, _∙_, ap}
 use native.Mathlib.Omega.{arith}
@@ -26,9 +27,9 @@ compress-block-requires c κs = simp (length-take, length-drop) (omega arith)
 loop-again : tie.Need-loop-again Inv-loop μ-loop
 unfolding block
 loop-again c =
-    let at-loop = c .before .before .before in
-    let l = at-loop .loop in
-    let s = at-loop .before .before .args .s .now in
+    let turn = c .before .before .before in
+    let l = turn .loop in
+    let s = turn .before .before .args .s .now in
     let q : 64 * l .i + 64 - 64 * l .i ≡ 64 = omega arith in (
       omega arith,
       c .compress-block .ensures ∙ ap (λ (k : ℕ). compress (l .w) (take k (drop (64 * l .i) s))) q ∙ stepped compress _ s _ (l .inv .1),
