@@ -1,4 +1,4 @@
--- `hasher::fields::joined` meets its contract.
+-- `hasher::fields::joined` meets its contract: the second `stored` goes behind what the first one put over zeros (`pasted`).
 use Prim.Native.Nat.{ℕ}
 use mathlib.Core.Path.{_≡_, ap, _∙_}
 use mathlib.Core.List.{List}

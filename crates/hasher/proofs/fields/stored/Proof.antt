@@ -1,4 +1,5 @@
--- `hasher::fields::stored` meets its contract.
+-- `hasher::fields::stored` meets its contract. The invariant: j ≤ length s, and `out` is `old` with the first j bytes of `s` pasted at n. The measure
+-- is length s - j. Each turn stores byte j (`paste-suc`).
 use Prim.Native.Nat.{ℕ, _+_, _-_, _≤_}
 use mathlib.Core.Path.{_≡_, sym, ap, _∙_}
 use mathlib.Core.List.{List}
@@ -21,9 +22,9 @@ loop-holds c = (search needs, paste-zero _ (c .args .n) (c .args .s .now))
 
 loop-again : tie.Need-loop-again Inv-loop μ-loop
 loop-again c =
-    let at-loop = c .before .before in
-    let l = at-loop .loop in
-    let a = at-loop .before .args in
+    let turn = c .before .before in
+    let l = turn .loop in
+    let a = turn .before .args in
     let e : length (a .old) ≡ 64 = search needs in (
       omega arith,
       ap (λ (o : List ℕ). set o (a .n + l .j) (getD (a .s .now) (l .j) 0)) (l .inv .1)
