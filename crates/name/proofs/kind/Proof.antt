@@ -1,4 +1,5 @@
--- `name::kind` meets its contract.
+-- `name::kind` meets its contract: each return is the row of the table that its branch names; the two tests of six bytes are numbers there (`begins`,
+-- `ends`).
 use Prim.Native.Nat.{ℕ, _-_, _*_}
 use mathlib.Core.Bool.{true, false}
 use borrow.Author.Tests.{lt-ltb, le-ltb}
@@ -20,14 +21,14 @@ unfolding be
 begins c = c .same .ensures
 
 ends : (c : tie.After-same2)
-    → c .same2 .result
-    ≡ eqb 0x2e6772617068
-    (be 6 (now (c .before .before .before .before .before .before .before .args .s))
-    (length (now (c .before .before .before .before .before .before .before .args .s)) - 6))
+    → (let begun = c .before .before .before .before in
+    let l = now (begun .before .before .before .args .s) in
+    c .same2 .result ≡ eqb 0x2e6772617068 (be 6 l (length l - 6)))
 unfolding be
 ends c =
-    let start = c .before .before .before .before .before .before .before in
-    c .same2 .ensures ∙ ap (λ (i : ℕ). eqb 0x2e6772617068 (be 6 (now (start .args .s)) i)) (c .before .tail .ensures)
+    let begun = c .before .before .before .before in
+    let s = begun .before .before .before .args .s in
+    c .same2 .ensures ∙ ap (λ (i : ℕ). eqb 0x2e6772617068 (be 6 (now s) i)) (c .before .tail .ensures)
 
 returns : tie.Need-returns
 unfolding kindOf
@@ -38,41 +39,35 @@ returns c =
 returns-2 : tie.Need-returns-2
 unfolding kindOf
 returns-2 c =
-    let at-same = c .before .before .before .before .before in
-    let p = begins at-same in
-    let q = ends (c .before) in
+    let second = c .before in
+    let q = ends second in
+    let p = begins (second .before .before .before .before) in
     search rows depth 20
 
 returns-3 : tie.Need-returns-3
 unfolding kindOf
 returns-3 c =
-    let at-same = c .before .before .before .before .before .before in
-    let p = begins at-same in
-    let q = ends (c .before .before) in
+    let second = c .before .before in
+    let q = ends second in
+    let p = begins (second .before .before .before .before) in
     search (rows, c .if3 .taken) depth 20
 
 returns-4 : tie.Need-returns-4
 unfolding kindOf
 returns-4 c =
-    let at-same2 = c .before .before .before .before in
-    let at-same = at-same2 .before .before .before .before in
-    let p = begins at-same in
-    let q = ends at-same2 in
-    let a = at-same .before .before .before .args in
-    let o : ltb (first (misfit (now (a .s))) 0 (2 * a .w)) (2 * a .w) ≡ true =
-    rw (← c .before .odd .ensures) (lt-ltb _ _ (c .if4 .taken)) in
+    let second = c .before .before .before .before in
+    let q = ends second in
+    let p = begins (second .before .before .before .before) in
+    let o = rw (c .before .odd .ensures) at (lt-ltb _ _ (c .if4 .taken)) in
     search rows depth 20
 
 returns-5 : tie.Need-returns-5
 unfolding kindOf
 returns-5 c =
-    let at-same2 = c .before .before .before .before in
-    let at-same = at-same2 .before .before .before .before in
-    let p = begins at-same in
-    let q = ends at-same2 in
-    let a = at-same .before .before .before .args in
-    let o : ltb (first (misfit (now (a .s))) 0 (2 * a .w)) (2 * a .w) ≡ false =
-    rw (← c .before .odd .ensures) (le-ltb _ _ (c .if4 .left)) in
+    let second = c .before .before .before .before in
+    let q = ends second in
+    let p = begins (second .before .before .before .before) in
+    let o = rw (c .before .odd .ensures) at (le-ltb _ _ (c .if4 .left)) in
     search rows depth 20
 
 pub kind-spec : {M : Type 1} → statement M

@@ -1,4 +1,5 @@
--- `name::odd` meets its contract.
+-- `name::odd` meets its contract. The invariant: i ≤ n, and the search for a misfit among all n bytes is the search from i on. The measure is n - i.
+-- Each turn passes a byte that is a digit (`first-step`), or stops at one that is none (`first-stop`).
 use Prim.Native.Nat.{_-_, _≤_}
 use mathlib.Core.Path.{_≡_}
 use native.Mathlib.Omega.{arith}
@@ -21,15 +22,15 @@ loop-holds c = (omega arith, search searching)
 
 returns : tie.Need-returns Inv-loop μ-loop
 returns c =
-    let at-loop-test = c .before .before .before in
-    first-stop _ _ _ (at-loop-test .before .loop .inv .1) (at-loop-test .loop-test .taken)
+    let turn = c .before .before .before in
+    first-stop _ _ _ (turn .before .loop .inv .1) (turn .loop-test .taken)
     (misfit-yes _ _ _ (c .before .digit .ensures .0) (c .if1 .taken))
 
 loop-again : tie.Need-loop-again Inv-loop μ-loop
 loop-again c =
-    let at-loop-test = c .before .before .before in (
+    let turn = c .before .before .before in (
       omega arith,
-      first-step _ _ _ (at-loop-test .before .loop .inv .1) (at-loop-test .loop-test .taken)
+      first-step _ _ _ (turn .before .loop .inv .1) (turn .loop-test .taken)
           (misfit-no _ _ _ (c .before .digit .ensures .0) (c .if1 .left)),
     )
 

@@ -1,4 +1,4 @@
--- `name::read` meets its contract.
+-- `name::read` meets its contract: only kind 1 claims a hash, and it has the digits for it (`hexed`).
 use mathlib.Core.Bool.{Bool, true, false}
 use mathlib.Core.Path.{_≡_, sym, ap, _∙_}
 use lib.Dec.{eqb}
@@ -16,10 +16,10 @@ claimed-requires c κs = hexed 20 _ (sym (c .before .kind .ensures) ∙ c .if1 .
 returns : tie.Need-returns
 unfolding nameOf claimOf
 returns c =
-    let at-kind = c .before .before in
-    let l = now (at-kind .before .before .args .s) in
-    let e : eqb (kindOf 20 l) 1 ≡ true = eq-eqb _ _ (sym (at-kind .kind .ensures) ∙ c .before .if1 .taken) in
-    named (at-kind .kind .ensures) (c .claimed .ensures ∙ ap (λ (t : Bool). claimOf t l) (sym e))
+    let asked = c .before .before in
+    let l = now (asked .before .before .args .s) in
+    let e : eqb (kindOf 20 l) 1 ≡ true = eq-eqb _ _ (sym (asked .kind .ensures) ∙ c .before .if1 .taken) in
+    named (asked .kind .ensures) (c .claimed .ensures ∙ ap (λ (t : Bool). claimOf t l) (sym e))
 
 returns-2 : tie.Need-returns-2
 unfolding nameOf claimOf
