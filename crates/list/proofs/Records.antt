@@ -24,9 +24,9 @@ pub square : (k z : ℕ) → k < 4294967296 → z < 4294967296 → k * z ≤ 184
 square k z h g = mul-le-mul {n₁ = k} {m₁ = z} {n₂ = 4294967295} {m₂ = 4294967295} (omega arith) (omega arith)
 
 -- the hash bytes of a record as a number
-pub claim-number : (s r : RefT (List ℕ)) (z k : ℕ) → k * z + 28 ≤ length (s .now) → RecordsOf s (k * z + 8) 20 1 r
+pub claim-number : {s r : RefT (List ℕ)} (z k : ℕ) → k * z + 28 ≤ length (s .now) → RecordsOf s (k * z + 8) 20 1 r
     → number (r .now) ≡ claimAt z (s .now) k
-claim-number s r z k h p = part-number (run-in s r (k * z + 8) 20 (omega arith) p) (omega arith)
+claim-number {s} {r} z k h p = part-number (run-in s r (k * z + 8) 20 (omega arith) p) (omega arith)
 
 -- the ways through a record's table: a is its kind, s whether it has stray hash bytes, b its spare bytes
 module _ (z : ℕ) (l : List ℕ) (k : ℕ) {a : ℕ} (p : a ≡ kindAt z l k) where
@@ -62,8 +62,8 @@ flawed-no z l k r p q = le-ltb 0 (recordRule z l k) (omega arith)
 pub ruleset searching = (first-begins, first-stop, first-step, first-ends, flawed-yes, flawed-no)
 
 -- record k of n lies in the list
-pub record-room : (k n z m : ℕ) → k < n → 32 ≤ z → n * z ≤ m → k * z + 28 ≤ m
-record-room k n z m h g e = let q : suc k * z ≤ n * z = mul-le-mul-right z h in omega (arith, suc-mul k z)
+pub record-room : {k n z m : ℕ} → k < n → 32 ≤ z → n * z ≤ m → k * z + 28 ≤ m
+record-room {k} {n} {z} h g e = let q : suc k * z ≤ n * z = mul-le-mul-right z h in omega (arith, suc-mul k z)
 
 -- what a size that is not refused gives
 pub few : (z n : ℕ) (l : List ℕ) {m : ℕ} → m ≡ sizeRule z n l → m ≤ 0 → recordsOf z l ≤ 256

@@ -1,4 +1,4 @@
--- `list::blank` meets its contract.
+-- `list::blank` meets its contract: the hash bytes are zero as a number (`claim-number`).
 use Prim.Native.Nat.{ℕ}
 use mathlib.Core.Path.{ap, _∙_}
 use lib.Dec.{eqb}
@@ -9,7 +9,7 @@ use Rattle.list.proofs.blank.Tie as tie
 
 returns : tie.Need-returns
 returns c =
-    c .zero .ensures ∙ ap (λ (n : ℕ). eqb n 0) (claim-number _ _ _ _ (c .before .before .before .pre) (c .before .claim-at .ensures))
+    c .zero .ensures ∙ ap (λ (n : ℕ). eqb n 0) (claim-number _ _ (c .before .before .before .pre) (c .before .claim-at .ensures))
 
 pub blank-spec : {M : Type 1} → statement M
 blank-spec = tie.close (tie.spec
