@@ -49,12 +49,12 @@ module _ (key : ℕ → ℕ) (x : ℕ) where
         enough (hi - lo - 1) (hi - (mid lo hi + 1)) (mid lo hi + 1) hi (omega arith) (omega arith),
       )
 
-  pub halving-none : (lo hi : ℕ) → hi ≤ lo → halving key x lo hi ≡ Absent
+  pub halving-none : {lo hi : ℕ} → hi ≤ lo → halving key x lo hi ≡ Absent
   unfolding halving turns
-  halving-none lo hi h = let n : hi - lo ≡ 0 = omega arith in rw n
+  halving-none {lo} {hi} h = let n : hi - lo ≡ 0 = omega arith in rw n
 
   -- m is the middle
-  module _ (lo hi : ℕ) {m : ℕ} (h : lo < hi) (e : m ≡ mid lo hi) where
+  module _ {lo hi m : ℕ} (h : lo < hi) (e : m ≡ mid lo hi) where
     pub halving-less : x < key m → halving key x lo hi ≡ halving key x lo m
     unfolding turn
     halving-less g = rw e (opens lo hi h ∙ rw (order-less x (key (mid lo hi)) (rw e at g)))
@@ -74,16 +74,16 @@ module _ (key : ℕ → ℕ) (x : ℕ) where
       (equal : (lo hi m : ℕ) → lo ≤ m → m < hi → x ≡ key m → P lo hi (found m))
       (greater : (lo hi m : ℕ) (r : Found) → lo ≤ m → m < hi → key m < x → P (m + 1) hi r → P lo hi r) where
     by-turns : (n lo hi : ℕ) → hi - lo ≤ n → P lo hi (halving key x lo hi)
-    by-turns zero lo hi h = let g : hi ≤ lo = omega arith in rw (halving-none lo hi g) (none lo hi g)
+    by-turns zero lo hi h = let g : hi ≤ lo = omega arith in rw (halving-none g) (none lo hi g)
     by-turns (suc n) lo hi h =
-        ⊎-elim (λ (g : hi ≤ lo). rw (halving-none lo hi g) (none lo hi g))
+        ⊎-elim (λ (g : hi ≤ lo). rw (halving-none g) (none lo hi g))
         (λ (g : lo < hi). ⊎-elim
         (λ (k : key (mid lo hi) ≤ x). ⊎-elim
-        (λ (e : key (mid lo hi) ≡ x). rw (halving-equal lo hi g refl (sym e))
+        (λ (e : key (mid lo hi) ≡ x). rw (halving-equal g refl (sym e))
         (equal lo hi (mid lo hi) (omega arith) (omega arith) (sym e)))
-        (λ (k : key (mid lo hi) < x). rw (halving-greater lo hi g refl k)
+        (λ (k : key (mid lo hi) < x). rw (halving-greater g refl k)
         (greater lo hi (mid lo hi) _ (omega arith) (omega arith) k (by-turns n (mid lo hi + 1) hi (omega arith)))) (eq-or-lt-of-le k))
-        (λ (k : x < key (mid lo hi)). rw (halving-less lo hi g refl k)
+        (λ (k : x < key (mid lo hi)). rw (halving-less g refl k)
         (less lo hi (mid lo hi) _ (omega arith) (omega arith) k (by-turns n lo (mid lo hi) (omega arith)))) (le-or-lt (key (mid lo hi)) x))
         (le-or-lt hi lo)
 
@@ -144,19 +144,19 @@ module _ (key : ℕ → ℕ) (x : ℕ) where
         lo hi
 
 -- a turn of the loop: what is left answers as the whole does; r is how x stands to the middle
-module _ (key : ℕ → ℕ) (x lo hi m : ℕ) {all : Found} {r : Order} (e : all ≡ halving key x lo hi) (h : lo < hi)
+module _ (key : ℕ → ℕ) (x : ℕ) {lo hi m : ℕ} {all : Found} {r : Order} (e : all ≡ halving key x lo hi) (h : lo < hi)
     (d : m ≡ lo + (hi - lo) / 2) (o : r ≡ order x (key m)) where
   middle : m ≡ mid lo hi
   middle = omega arith
 
   pub turn-less : r ≡ Less → all ≡ halving key x lo m
-  turn-less t = e ∙ halving-less key x lo hi h middle (told _ _ o t)
+  turn-less t = e ∙ halving-less key x h middle (told _ _ o t)
 
   pub turn-equal : r ≡ Equal → all ≡ found m
-  turn-equal t = e ∙ halving-equal key x lo hi h middle (told _ _ o t)
+  turn-equal t = e ∙ halving-equal key x h middle (told _ _ o t)
 
   pub turn-greater : r ≡ Greater → all ≡ halving key x (m + 1) hi
-  turn-greater t = e ∙ halving-greater key x lo hi h middle (told _ _ o t)
+  turn-greater t = e ∙ halving-greater key x h middle (told _ _ o t)
 
 -- the fan entry before, of the first bucket and of another
 pub lower-zero : (p : List ℕ) {b : ℕ} → b ≡ 0 → 0 ≡ lower p b

@@ -1,4 +1,4 @@
--- `access::asked` meets its contract.
+-- `access::asked` meets its contract: by the two cases of the number.
 use mathlib.Core.Path.{ap, _∙_}
 use Rattle.access.specs.declared.Asking.the-variants.{Refused}
 use Rattle.access.proofs.Asks.{asking-some, asking-none}
