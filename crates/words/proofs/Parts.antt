@@ -49,7 +49,7 @@ part-number {s} {r} {k} {n} p h =
     rw l (ap (λ (x : List ℕ). be n x 0) (p .bytes) ∙ be-part n (s .now) k n 0 (omega arith) ∙ rw add-zero)
 
 -- records that lie within n bytes, and ones that do not
-module _ (n at count w : ℕ) where
+module _ {n at : ℕ} (count w : ℕ) where
   pub fits-none : n < at → false ≡ fits n at count w
   fits-none h = sym (lt-leb (at + count * w) n (omega arith))
 
