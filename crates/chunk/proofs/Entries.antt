@@ -9,7 +9,8 @@ use Rattle.types.specs.Refusals.{refusal}
 use Rattle.types.specs.declared.refusal.Refusal.{Refusal}
 use Rattle.words.specs.First.{first}
 use Rattle.words.proofs.Searches.{first-begins, first-stop, first-step, first-ends}
-use Rattle.chunk.specs.Index.{chunks, idAt, offAt, isAt, seen, entryRule, bad, chunkAt, pick, chunkOf, indexRule, indexPlace, entryOf, pickEntry, refuseEntry, nthOf}
+use Rattle.chunk.specs.Index.{chunks, idAt, offAt, isAt, seen, entryRule, bad, chunkAt, pick, chunkOf}
+use Rattle.chunk.specs.Index.{indexRule, indexPlace, entryOf, pickEntry, refuseEntry, nthOf}
 use Rattle.chunk.specs.declared.Chunk.the-variants.{Absent}
 use Rattle.chunk.specs.declared.Indexed.{Indexed as Listed}
 use Rattle.chunk.specs.declared.Indexed.the-variants.{Entry as Is, Past, Refused}

@@ -13,7 +13,8 @@ use Rattle.words.specs.First.{first}
 use Rattle.words.proofs.Numbers.{le-or-lt}
 use Rattle.words.proofs.Searches.{first-none, first-hit}
 use Rattle.words.proofs.Rows.{hit, miss, pass, eq-via, ne-via}
-use Rattle.chunk.specs.Index.{chunks, idAt, offAt, isAt, rangeRule, entryRule, bad, badEntry, indexRule, indexPlace, chunkAt, pick, chunkOf, startOf, Indexed, Lies}
+use Rattle.chunk.specs.Index.{chunks, idAt, offAt, isAt, rangeRule, entryRule, bad, badEntry, indexRule, indexPlace}
+use Rattle.chunk.specs.Index.{chunkAt, pick, chunkOf, startOf, Indexed, Lies}
 use Rattle.chunk.specs.declared.Chunk.the-variants.{Absent}
 
 -- the ways through the table: c is the count, and e the first entry that is refused

@@ -1,4 +1,4 @@
--- `chunk::end` meets its contract.
+-- `chunk::end` meets its contract: the last entry is the one that `count` names.
 use mathlib.Core.Path.{ap, _∙_}
 use denote.Ref.{now}
 use Rattle.chunk.specs.Index.{offAt}
