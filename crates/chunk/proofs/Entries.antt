@@ -1,5 +1,5 @@
 -- What the tests of the index say of numbers that were read.
-use Prim.Native.Nat.{ℕ, zero, suc, _+_, _<_, _≤_}
+use Prim.Native.Nat.{ℕ, zero, suc, _<_, _≤_}
 use mathlib.Core.List.{List}
 use mathlib.Core.Bool.{true, false}
 use mathlib.Core.Path.{_≡_, refl, sym, ap, _∙_}
@@ -9,7 +9,7 @@ use Rattle.types.specs.Refusals.{refusal}
 use Rattle.types.specs.declared.refusal.Refusal.{Refusal}
 use Rattle.words.specs.First.{first}
 use Rattle.words.proofs.Searches.{first-begins, first-stop, first-step, first-ends}
-use Rattle.chunk.specs.Index.{chunks, idAt, offAt, isAt, seen, entryRule, bad, chunkAt, pick, chunkOf}
+use Rattle.chunk.specs.Index.{chunks, idAt, isAt, seen, entryRule, bad, chunkAt, pick, chunkOf}
 use Rattle.chunk.specs.Index.{indexRule, indexPlace, entryOf, pickEntry, refuseEntry, nthOf}
 use Rattle.chunk.specs.declared.Chunk.the-variants.{Absent}
 use Rattle.chunk.specs.declared.Indexed.{Indexed as Listed}

@@ -1,5 +1,5 @@
 -- How each way through the index's table answers, and what a sound index gives.
-use Prim.Native.Nat.{ℕ, _+_, _-_, _*_, _<_, _≤_}
+use Prim.Native.Nat.{ℕ, _+_, _*_, _<_, _≤_}
 use mathlib.Core.List.{List}
 use mathlib.Core.Bool.{Bool, true, false}
 use mathlib.Core.Path.{_≡_, refl, sym, ap, ap₂, _∙_}
@@ -14,7 +14,7 @@ use Rattle.words.proofs.Numbers.{le-or-lt}
 use Rattle.words.proofs.Searches.{first-none, first-hit}
 use Rattle.words.proofs.Rows.{hit, miss, pass, eq-via, ne-via}
 use Rattle.chunk.specs.Index.{chunks, idAt, offAt, isAt, rangeRule, entryRule, bad, badEntry, indexRule, indexPlace}
-use Rattle.chunk.specs.Index.{chunkAt, pick, chunkOf, startOf, Indexed, Lies}
+use Rattle.chunk.specs.Index.{chunkAt, pick, chunkOf, Indexed, Lies}
 use Rattle.chunk.specs.declared.Chunk.the-variants.{Absent}
 
 -- the ways through the table: c is the count, and e the first entry that is refused

@@ -6,7 +6,6 @@ use mathlib.Core.Path.{_≡_}
 use native.Mathlib.Omega.{arith}
 use borrow.Author.Tests.{lt-ltb, le-ltb}
 use Rattle.words.specs.Big.{be}
-use Rattle.words.specs.First.{_if_else_}
 use Rattle.words.proofs.Searches.{first-begins, first-stop, first-step, first-ends}
 use Rattle.file.specs.Table.{falls}
 

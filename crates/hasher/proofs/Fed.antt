@@ -12,7 +12,6 @@ use Rattle.words.specs.Big.{bytesOf}
 use Rattle.words.specs.First.{first}
 use Rattle.words.proofs.Numbers.{bytes-same}
 use Rattle.words.proofs.Searches.{first-is}
-use Rattle.block.specs.Message.{afterAll}
 use Rattle.hasher.specs.Message.{fills, padding, bytes}
 use Rattle.hasher.specs.Feed.{rest, padded, opened, nextBlock, nextWords, nextCount}
 use Rattle.hasher.proofs.Blocks.{goes-on, rest-goes-on, length-rest}
@@ -39,18 +38,12 @@ module _ (b : List ℕ) (n : ℕ) (e : length b ≡ 64) where
   module _ (a c : List ℕ) where
     pub block-twice : nextBlock (nextBlock b n a) (nextCount n a) c ≡ nextBlock b n (a ++ c)
     unfolding nextBlock
-    block-twice =
-        ap (λ (l : List ℕ). padded (rest (l ++ c))) (opened-next a)
-        ∙ ap padded (rest-goes-on (opened b n ++ a) c)
-        ∙ ap (λ (l : List ℕ). padded (rest l)) (append-assoc (opened b n) a c)
+    block-twice = rw (opened-next a, rest-goes-on, append-assoc)
 
     pub words-twice : (step : List ℕ → List ℕ → List ℕ) (w : List ℕ)
         → nextWords step (nextWords step w b n a) (nextBlock b n a) (nextCount n a) c ≡ nextWords step w b n (a ++ c)
     unfolding nextWords
-    words-twice step w =
-        ap (λ (l : List ℕ). afterAll step (afterAll step w (opened b n ++ a)) (l ++ c)) (opened-next a)
-        ∙ goes-on step w (opened b n ++ a) c
-        ∙ ap (afterAll step w) (append-assoc (opened b n) a c)
+    words-twice step w = rw (opened-next a, goes-on, append-assoc)
 
     pub count-twice : nextCount (nextCount n a) c ≡ nextCount n (a ++ c)
     unfolding nextCount

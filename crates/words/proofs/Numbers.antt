@@ -1,5 +1,5 @@
 -- Laws of big-endian numbers, each over the width.
-use Prim.Native.Nat.{ℕ, zero, suc, _+_, _-_, _*_, _/_, _%_, _^_, _≤_, _<_}
+use Prim.Native.Nat.{ℕ, zero, suc, _+_, _*_, _/_, _%_, _^_, _≤_, _<_}
 use mathlib.Core.List.{List, _∷_}
 use mathlib.Core.Path.{_≡_, refl, sym, ap, ap₂, _∙_}
 use native.Mathlib.Nat.{add-zero, add-suc, add-assoc, mul-one, mul-assoc, pow-zero, pow-suc, pow-succ', one-le-pow, mod-lt, eq-or-lt-of-le, le-of-suc-le-suc}

@@ -1,14 +1,11 @@
 -- `access::lookup` meets its contract: each return is a way through the lookup (`look-misfit`, `look-width`, `look-out`, `look-search`); that what it
 -- answers is right then follows for any of them (`both`). A record that fits gives the room that the calls ask for (`fits`).
-use Prim.Native.Nat.{ℕ}
-use mathlib.Core.List.{List}
-use mathlib.Core.Path.{_≡_, ap, ap₂, _∙_}
+use mathlib.Core.Path.{_≡_, ap₂, _∙_}
 use native.Mathlib.Omega.{arith}
-use lib.ListN.{length, getD}
+use lib.ListN.{getD}
 use denote.Ref.{now}
-use Rattle.words.specs.Big.{number}
 use Rattle.fit.specs.Fits.{fanPart, Fitted}
-use Rattle.access.specs.Lookup.{keyOf, upper, lower, halving, lookupOf, Right}
+use Rattle.access.specs.Lookup.{upper, lower, lookupOf, Right}
 use Rattle.access.specs.declared.Found.{Found}
 use Rattle.fit.proofs.Fitting.{fitted, zero-of}
 use Rattle.access.proofs.Stores.{both}
@@ -77,8 +74,7 @@ returns-4 c =
     let fine = fan .before .before .before in
     let begun = fine .before in
     let x = now (begun .before .before .before .args .x) in
-    right begun (c .halve .ensures
-    ∙ ap (λ (p : List ℕ). halving (keyOf (length x) p) (number x) (c .before .low .result) (read .be32 .result)) (cut .oidl .ensures .bytes)
+    right begun (rw (cut .oidl .ensures .bytes) at (c .halve .ensures)
     ∙ look-search _ _ x (begun .fit .ensures) (fine .if1 .left) (fan .before .if2 .left) (entry read) (cut .before .if3 .left)
     (c .before .low .ensures ∙ ap₂ lower (fan .oidf .ensures .bytes) (read .before .wide .ensures .0)))
 

@@ -1,16 +1,14 @@
 -- `name::kind` meets its contract: each return is the row of the table that its branch names; the two tests of six bytes are numbers there (`begins`,
 -- `ends`).
-use Prim.Native.Nat.{ℕ, _-_, _*_}
-use mathlib.Core.Bool.{true, false}
+use Prim.Native.Nat.{_-_}
 use borrow.Author.Tests.{lt-ltb, le-ltb}
-use mathlib.Core.Path.{_≡_, ap, _∙_}
-use lib.Dec.{ltb, eqb}
+use mathlib.Core.Path.{_≡_}
+use lib.Dec.{eqb}
 use lib.ListN.{length}
 use denote.Ref.{now}
 use Rattle.words.specs.Big.{be}
-use Rattle.words.specs.First.{first}
 use Rattle.words.proofs.Rows.{rows}
-use Rattle.name.specs.Names.{misfit, kindOf}
+use Rattle.name.specs.Names.{kindOf}
 use borrow.Author.Needs.{needs}
 use Rattle.name.proofs.kind.Statement.{statement}
 use Rattle.name.proofs.kind.Tie as tie
@@ -25,10 +23,7 @@ ends : (c : tie.After-same2)
     let l = now (begun .before .before .before .args .s) in
     c .same2 .result ≡ eqb 0x2e6772617068 (be 6 l (length l - 6)))
 unfolding be
-ends c =
-    let begun = c .before .before .before .before in
-    let s = begun .before .before .before .args .s in
-    c .same2 .ensures ∙ ap (λ (i : ℕ). eqb 0x2e6772617068 (be 6 (now s) i)) (c .before .tail .ensures)
+ends c = rw (c .before .tail .ensures) at (c .same2 .ensures)
 
 returns : tie.Need-returns
 unfolding kindOf

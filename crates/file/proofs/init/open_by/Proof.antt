@@ -1,14 +1,12 @@
 -- `file::init::open_by` meets its contract: stage by stage. A stage that refuses is handed back; the next one stands on what the stages before it
 -- leave: 1 to 5 the size (`top`), 6 to 9 a sound index (`none`).
-use Prim.Native.Nat.{ℕ}
-use mathlib.Core.Path.{_≡_, sym, ap, ap₂, _∙_}
+use mathlib.Core.Path.{_≡_, sym, ap}
 use native.Mathlib.Omega.{arith}
 use denote.Ref.{now}
 use Rattle.types.specs.declared.refusal.Refusal.{Refusal}
 use Rattle.chunk.specs.Index.{indexRule}
 use Rattle.chunk.proofs.Sound.{indexed}
-use Rattle.file.specs.Table.{bases, chunked, openingBy}
-use Rattle.file.specs.declared.rules.Index.{Index}
+use Rattle.file.specs.Table.{openingBy}
 use Rattle.file.proofs.Stages.{stages, refuse-no, refuse-none, refuse-as, Headed, headed, width-wide}
 use borrow.Author.Needs.{needs}
 use Rattle.file.proofs.init.open_by.Statement.{statement}
@@ -51,12 +49,9 @@ unfolding openingBy
 returns-3 c =
     let located = c .before .before .before in
     let begun = located .before .before .before .before in
-    let a = begun .before .before .before .args in
-    let l = now (a .s) in
     refuse-no _ _ _ _ _ (begun .before .head .ensures) (begun .if1 .left)
     (refuse-none _ _ _ _ (sym (none (located .before)))
-    (c .chunks-open .ensures
-    ∙ ap₂ (λ (w : ℕ) (x : Index). chunked (a .tried) w (bases l) l x) (c .before .before .width-of .ensures) (located .locate .ensures)))
+    (rw (c .before .before .width-of .ensures, located .locate .ensures) at (c .chunks-open .ensures)))
 
 pub open-by-spec : {M : Type 1} → statement M
 open-by-spec =
