@@ -7,7 +7,7 @@ use Rattle.types.specs.declared.refusal.Refusal.{Refusal}
 use Rattle.chunk.specs.Index.{indexRule}
 use Rattle.chunk.proofs.Sound.{indexed}
 use Rattle.file.specs.Table.{openingBy}
-use Rattle.file.proofs.Stages.{stages, refuse-no, refuse-none, refuse-as, Headed, headed, width-wide}
+use Rattle.file.proofs.Stages.{stages, stage-no, stage-none, stage-as, Headed, headed, width-wide}
 use borrow.Author.Needs.{needs}
 use Rattle.file.proofs.init.open_by.Statement.{statement}
 use Rattle.file.proofs.init.open_by.Tie as tie
@@ -29,8 +29,8 @@ returns-2 : tie.Need-returns-2
 unfolding openingBy
 returns-2 c =
     let begun = c .before .before .before in
-    refuse-no _ _ _ _ _ (begun .before .head .ensures) (begun .if1 .left)
-    (refuse-as _ _ _ (c .before .before .check .ensures) (c .if2 .taken))
+    stage-no _ (begun .before .head .ensures) (begun .if1 .left)
+    (stage-as _ _ _ (c .before .before .check .ensures) (c .if2 .taken))
 
 shared-slice-read-chunks-open : tie.Need-shared-slice-read-chunks-open
 shared-slice-read-chunks-open c =
@@ -49,8 +49,8 @@ unfolding openingBy
 returns-3 c =
     let located = c .before .before .before in
     let begun = located .before .before .before .before in
-    refuse-no _ _ _ _ _ (begun .before .head .ensures) (begun .if1 .left)
-    (refuse-none _ _ _ _ (sym (none (located .before)))
+    stage-no _ (begun .before .head .ensures) (begun .if1 .left)
+    (stage-none _ (sym (none (located .before)))
     (rw (c .before .before .width-of .ensures, located .locate .ensures) at (c .chunks-open .ensures)))
 
 pub open-by-spec : {M : Type 1} → statement M
