@@ -114,4 +114,4 @@ module _ (step : List ℕ → List ℕ → List ℕ) where
       → afterAll step (afterAll step w (padded (o ++ take r s))) (drop r s) ≡ afterAll step w (o ++ s)
   fills-up o s r e h w =
       let f = full o s r e h in
-      rw (padded-full _ f, one w _ f, cut o s r e h) (sym (joins w (o ++ take r s) (drop r s) 1 f))
+      rw (padded-full _ f, one w (o ++ take r s) f, cut o s r e h) (sym (joins w (o ++ take r s) (drop r s) 1 f))

@@ -5,7 +5,6 @@ use mathlib.Core.Path.{_≡_, sym, ap, _∙_}
 use mathlib.Core.List.{List, _++_}
 use native.Mathlib.Omega.{arith}
 use lib.ListN.{length, take, drop, length-append, length-take}
-use Rattle.block.specs.Message.{afterAll}
 use Rattle.block.specs.Fips.{compress}
 use Rattle.hasher.specs.Feed.{rest, padded, opened, nextBlock, nextWords, nextCount}
 use Rattle.hasher.specs.State.{updated}
@@ -51,11 +50,9 @@ returns-2 c =
     let h : r ≤ length s = omega arith in
     let t : take (length s - r) (drop r s) ≡ drop r s = tail s r in
     let u : List ℕ = take (length s - r) (drop r s) in
-    same (c .joined3 .ensures ∙ ap padded (tail u (64 * (length u / 64))) ∙ ap (λ (l : List ℕ). padded (rest l)) t
-    ∙ ap padded (rest-fills o s r e h))
-    (c .before .before .blocks3 .ensures ∙ ap (afterAll compress _) t
-    ∙ ap (λ (v : List ℕ). afterAll compress v (drop r s))
-    (hashed .blocks2 .ensures ∙ ap (afterAll compress _) (filled .joined2 .ensures)) ∙ fills-up compress o s r e h _)
+    same
+    (rw (tail u (64 * (length u / 64)), t, rest-fills o s r e h) at (c .joined3 .ensures))
+    (rw (t, hashed .blocks2 .ensures, filled .joined2 .ensures, fills-up compress o s r e h) at (c .before .before .blocks3 .ensures))
     (counted .wrapping-add-u64 .ensures)
 
 pub update-spec : {M : Type 1} → statement M
