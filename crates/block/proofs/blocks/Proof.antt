@@ -1,7 +1,7 @@
 -- `block::blocks` meets its contract. The invariant: i ≤ n, and `w` is the words after the first i blocks of `s`. The measure is n - i. Each turn is
 -- one block more (`stepped`), and n is the count of whole blocks.
 use Prim.Native.Nat.{_+_, _*_, _≤_, _-_, _/_}
-use mathlib.Core.Path.{_≡_, refl, _∙_, ap}
+use mathlib.Core.Path.{_≡_, refl, _∙_}
 use native.Mathlib.Omega.{arith}
 use borrow.Author.Needs.{needs}
 use lib.ListN.{length, length-take, length-drop}
@@ -39,7 +39,7 @@ returns c =
     let l = c .before .loop in
     let s = c .before .before .before .args .s .now in
     let q : l .i ≡ length s / 64 = omega arith in
-    l .inv .1 ∙ ap (after compress _ s) q
+    rw q at (l .inv .1)
 
 pub blocks-spec : {M : Type 1} → statement M
 blocks-spec =

@@ -1,4 +1,4 @@
--- `chunk::size` meets its contract: by the cases of the chunk, and of its order.
+-- `chunk::size` meets its contract: by the cases of the chunk, and of which of its ends is higher.
 use mathlib.Core.Path.{ap}
 use native.Mathlib.Omega.{arith}
 use Rattle.chunk.specs.Index.{sizeOf}

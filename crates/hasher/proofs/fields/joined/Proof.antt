@@ -1,5 +1,5 @@
 -- `hasher::fields::joined` meets its contract: the second `stored` goes behind what the first one put over zeros (`pasted`).
-use mathlib.Core.Path.{_≡_, _∙_}
+use mathlib.Core.Path.{_≡_}
 use native.Mathlib.Omega.{arith}
 use lib.ListN.{length, length-take}
 use Rattle.hasher.proofs.Fed.{pasted}
@@ -18,8 +18,7 @@ returns c =
     let start = c .before .before .before .before in
     let a = start .args in
     let e : length (a .t1) ≡ 64 = search needs in
-    rw (c .before .stored .ensures) at (c .stored2 .ensures)
-    ∙ pasted (a .t1) (a .n) (a .s .now) (omega arith) (omega arith)
+    rw (c .before .stored .ensures, pasted (a .t1) (a .n) (a .s .now) (omega arith) (omega arith)) at (c .stored2 .ensures)
 
 pub joined-spec : {M : Type 1} → statement M
 joined-spec =

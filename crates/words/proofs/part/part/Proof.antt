@@ -1,5 +1,5 @@
--- `words::part::part` meets its contract: the records lie in the slice exactly if `room` says so (`within`); the bytes from `at` to `e` are then theirs
--- (`span`).
+-- `words::part::part` meets its contract: where `room` says so the records lie in the slice (`within`), and the bytes from `at` to `e` are
+-- theirs (`span`); else the empty part is what is asked for (`uncut`).
 use native.Mathlib.Omega.{arith}
 use mathlib.Core.Path.{refl}
 use Prim.Native.Nat.{_+_, _*_, _≤_}
@@ -17,12 +17,12 @@ returns : tie.Need-returns
 returns c =
     let asked = c .before .before in
     let a = asked .before .before .args in
-    cut _ _ _ _ (asked .room .ensures) (c .before .if1 .taken)
+    cut _ _ _ (asked .room .ensures) (c .before .if1 .taken)
     (record { block = refl; start = omega arith; bytes = span (a .at) (a .count * a .w) (a .s .now) })
 
 returns-2 : tie.Need-returns-2
 returns-2 c =
-    uncut _ _ _ _ (c .before .before .room .ensures) (c .before .if1 .left) (record { block = refl; start = omega arith; bytes = refl })
+    uncut _ _ _ (c .before .before .room .ensures) (c .before .if1 .left) (record { block = refl; start = omega arith; bytes = refl })
 
 pub part-spec : {M : Type 1} → statement M
 part-spec =
