@@ -16,7 +16,6 @@ use Rattle.words.specs.Part.{RecordsOf}
 use Rattle.words.specs.Sums.{before}
 use Rattle.words.proofs.Parts.{run-in, part-number}
 use Rattle.words.proofs.Rows.{hit, miss, pass}
-use Rattle.words.proofs.Searches.{first-begins, first-stop, first-step, first-ends}
 use Rattle.list.specs.List.{recordsOf, lengthAt, kindAt, claimAt, spareAt, recordRule, flawed, sizeRule, badRecord, listRule, listPlace}
 
 -- a product of two numbers of 32 bits
@@ -50,16 +49,6 @@ module _ (z : ℕ) (l : List ℕ) (k : ℕ) {a : ℕ} (p : a ≡ kindAt z l k) w
       pub record-fine : b ≤ 0 → 0 ≡ recordRule z l k
       unfolding recordRule
       record-fine g = miss 31 _ _ 0 low (miss 31 _ _ 0 (sym q ∙ e) (miss 31 _ 0 0 (le-ltb 0 (spareAt z l k) (omega arith)) refl))
-
-pub flawed-yes : (z : ℕ) (l : List ℕ) (k r : ℕ) → r ≡ recordRule z l k → 0 < r → flawed z l k ≡ true
-unfolding flawed
-flawed-yes z l k r p q = lt-ltb 0 (recordRule z l k) (omega arith)
-
-pub flawed-no : (z : ℕ) (l : List ℕ) (k r : ℕ) → r ≡ recordRule z l k → r ≤ 0 → flawed z l k ≡ false
-unfolding flawed
-flawed-no z l k r p q = le-ltb 0 (recordRule z l k) (omega arith)
-
-pub ruleset searching = (first-begins, first-stop, first-step, first-ends, flawed-yes, flawed-no)
 
 -- record k of n lies in the list
 pub record-room : {k n z m : ℕ} → k < n → 32 ≤ z → n * z ≤ m → k * z + 28 ≤ m

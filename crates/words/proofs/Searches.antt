@@ -5,7 +5,10 @@ use mathlib.Core.Path.{_≡_, refl, sym, _∙_}
 use mathlib.Core.Logic.{⊎-elim}
 use native.Mathlib.Omega.{arith}
 use native.Mathlib.Nat.{sub-zero, eq-or-lt-of-le}
+use lib.Dec.{ltb}
+use borrow.Author.Tests.{lt-ltb, le-ltb}
 use Rattle.words.proofs.Numbers.{le-or-lt}
+use Rattle.words.proofs.Rows.{eqb-via, neb-via}
 use Rattle.words.specs.First.{_if_else_, first}
 
 -- the loop stands at i, and what is left of the search answers as the whole does
@@ -27,6 +30,15 @@ module _ (p : ℕ → Bool) (n : ℕ) where
   pub first-ends : (i : ℕ) → first p 0 n ≡ first p i (n - i) → n ≤ i → i ≡ first p 0 n
   unfolding first
   first-ends i e h = let z : n - i ≡ 0 = omega arith in sym (e ∙ rw z)
+
+-- a test of b, by a number r that was read
+pub above-yes : (a b r : ℕ) → r ≡ b → a < r → ltb a b ≡ true
+above-yes a b r e h = lt-ltb a b (omega arith)
+
+pub above-no : (a b r : ℕ) → r ≡ b → r ≤ a → ltb a b ≡ false
+above-no a b r e h = le-ltb a b (omega arith)
+
+pub ruleset searching = (first-begins, first-stop, first-step, first-ends, above-yes, above-no, eqb-via, neb-via)
 
 -- what the answer says
 module _ (p : ℕ → Bool) where

@@ -5,7 +5,8 @@ use mathlib.Core.Path.{_≡_}
 use native.Mathlib.Omega.{arith}
 use Rattle.words.specs.First.{first}
 use Rattle.list.specs.List.{flawed}
-use Rattle.list.proofs.Records.{searching, record-room}
+use Rattle.words.proofs.Searches.{searching}
+use Rattle.list.proofs.Records.{record-room}
 use Rattle.list.proofs.bad_record.Statement.{statement}
 use Rattle.list.proofs.bad_record.Tie as tie
 
@@ -24,9 +25,11 @@ record-rule-requires c κs =
     record-room (c .loop-test .taken) (start .pre .0) (start .pre .1)
 
 loop-again : tie.Need-loop-again Inv-loop μ-loop
+unfolding flawed
 loop-again c = (omega arith, search searching)
 
 pub bad-record-spec : {M : Type 1} → statement M
+unfolding flawed
 bad-record-spec =
     tie.close
     (tie.spec

@@ -6,7 +6,7 @@ use native.Mathlib.Omega.{arith}
 use borrow.Author.Needs.{needs}
 use Rattle.words.specs.First.{first}
 use Rattle.chunk.specs.Index.{bad}
-use Rattle.chunk.proofs.Entries.{searching}
+use Rattle.words.proofs.Searches.{searching}
 use Rattle.chunk.proofs.index.bad_entry.Statement.{statement}
 use Rattle.chunk.proofs.index.bad_entry.Tie as tie
 
@@ -20,9 +20,11 @@ loop-holds : tie.Need-loop-holds Inv-loop μ-loop
 loop-holds c = (omega arith, search searching)
 
 loop-again : tie.Need-loop-again Inv-loop μ-loop
+unfolding bad
 loop-again c = (omega arith, search searching)
 
 pub bad-entry-spec : {M : Type 1} → statement M
+unfolding bad
 bad-entry-spec =
     tie.close
     (tie.spec

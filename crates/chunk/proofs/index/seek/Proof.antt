@@ -5,7 +5,7 @@ use mathlib.Core.Path.{_≡_}
 use native.Mathlib.Omega.{arith}
 use Rattle.words.specs.First.{first}
 use Rattle.chunk.specs.Index.{isAt}
-use Rattle.chunk.proofs.Entries.{searching}
+use Rattle.words.proofs.Searches.{searching}
 use Rattle.chunk.proofs.index.seek.Statement.{statement}
 use Rattle.chunk.proofs.index.seek.Tie as tie
 
@@ -19,9 +19,11 @@ loop-holds : tie.Need-loop-holds Inv-loop μ-loop
 loop-holds c = (omega arith, search searching)
 
 loop-again : tie.Need-loop-again Inv-loop μ-loop
+unfolding isAt
 loop-again c = (omega arith, search (searching, c .if1 .left))
 
 pub seek-spec : {M : Type 1} → statement M
+unfolding isAt
 seek-spec =
     tie.close
     (tie.spec
