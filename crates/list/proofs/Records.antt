@@ -55,21 +55,15 @@ pub record-room : {k n z m : ℕ} → k < n → 32 ≤ z → n * z ≤ m → k *
 record-room {k} {n} {z} h g e = let q : suc k * z ≤ n * z = mul-le-mul-right z h in omega (arith, suc-mul k z)
 
 -- what a size that is not refused gives
-pub few : (z n : ℕ) (l : List ℕ) {m : ℕ} → m ≡ sizeRule z n l → m ≤ 0 → recordsOf z l ≤ 256
+pub size-fine : (z n : ℕ) (l : List ℕ) {m : ℕ} → m ≡ sizeRule z n l → m ≤ 0 → (n ≤ 1073741824) × (recordsOf z l ≤ 256)
 unfolding sizeRule
-few z n l e h =
+size-fine z n l e h =
     let y : sizeRule z n l ≡ 0 = omega arith in
     let p1 = pass 1 _ _ (lit< tt) y in
     let p2 = pass 30 _ _ (lit< tt) (p1 .1) in
     let p3 = pass 30 _ _ (lit< tt) (p2 .1) in
     let p4 = pass 30 _ _ (lit< tt) (p3 .1) in
-    ltb-false 256 (recordsOf z l) (p4 .0)
-
-pub small : (z n : ℕ) (l : List ℕ) {m : ℕ} → m ≡ sizeRule z n l → m ≤ 0 → n ≤ 1073741824
-unfolding sizeRule
-small z n l e h =
-    let y : sizeRule z n l ≡ 0 = omega arith in
-    ltb-false 1073741824 n (pass 1 _ _ (lit< tt) y .0)
+    (ltb-false _ n (p1 .0), ltb-false _ (recordsOf z l) (p4 .0))
 
 -- the numbers of a size's table
 row-low : (k : ℕ) (b : Bool) (rest : ℕ) → k < 31 → rest < 31 → (k if b else rest) < 31
@@ -143,4 +137,5 @@ list-sound z n l = go (ltb 0 (sizeRule z n l)) refl
         let p1 = pass 31 (ltb (badRecord z l) (recordsOf z l)) (32 if not (eqb (before (lengthAt z l) (recordsOf z l)) n) else 0) (lit< tt)
         e in
         let p2 = pass 32 _ 0 (lit< tt) (p1 .1) in
-        (small z n l (sym y) (omega arith), few z n l (sym y) (omega arith), eqb-true _ _ (not-false _ (p2 .0)))
+        let s = size-fine z n l (sym y) (omega arith) in
+        (s .0, s .1, eqb-true _ _ (not-false _ (p2 .0)))

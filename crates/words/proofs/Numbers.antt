@@ -22,6 +22,10 @@ le-or-lt a b = go (leb a b) refl
     go true e = inl (leb-true a b e)
     go false e = inr (leb-false a b e)
 
+-- one number against another
+pub by-order : {X : Type 0} (a b : ℕ) → (a < b → X) → (a ≡ b → X) → (b < a → X) → X
+by-order a b below same above = ⊎-elim (λ (h : a ≤ b). ⊎-elim same below (eq-or-lt-of-le h)) above (le-or-lt a b)
+
 -- one byte more
 pub be-next : (l : List ℕ) (i n : ℕ) → be (n + 1) l i ≡ be n l i * 256 + getD l (i + n) 0
 unfolding be

@@ -7,7 +7,7 @@ use native.Mathlib.Omega.{arith}
 use native.Mathlib.Nat.{sub-zero, eq-or-lt-of-le}
 use lib.Dec.{ltb}
 use borrow.Author.Tests.{lt-ltb, le-ltb}
-use Rattle.words.proofs.Numbers.{le-or-lt}
+use Rattle.words.proofs.Numbers.{by-order}
 use Rattle.words.proofs.Rows.{eqb-via, neb-via}
 use Rattle.words.specs.First.{_if_else_, first}
 
@@ -83,14 +83,10 @@ module _ (p : ℕ → Bool) where
   -- the answer is known by where it stands
   pub first-is : (n k : ℕ) → k < n → p k ≡ true → ((j : ℕ) → j < k → p j ≡ false) → first p 0 n ≡ k
   first-is n k h t f =
-      ⊎-elim
-      (λ (g : first p 0 n ≤ k).
-      ⊎-elim
-      (λ (e : first p 0 n ≡ k). e)
-      (λ (l : first p 0 n < k). clash (first p 0 n) (first-hit 0 n (omega arith)) (f _ l))
-      (eq-or-lt-of-le g))
-      (λ (g : k < first p 0 n). clash k t (first-before 0 n k (omega arith) g))
-      (le-or-lt (first p 0 n) k)
+      by-order (first p 0 n) k
+      (λ l. clash (first p 0 n) (first-hit 0 n (omega arith)) (f _ l))
+      (λ e. e)
+      (λ g. clash k t (first-before 0 n k (omega arith) g))
     where
       clash : (i : ℕ) → p i ≡ true → p i ≡ false → first p 0 n ≡ k
       clash i a b = let z : _≡_ {A = Bool} true false = sym a ∙ b in let y : _≡_ {A = ℕ} 0 1 = cc in absurd (omega arith)

@@ -1,8 +1,8 @@
 -- `list::check` meets its contract: each return is the way through the list's table that its tests name (`list-size`, `list-record`, `list-sum`,
--- `list-fine`). A list whose size is not refused has at most 256 records (`few`).
+-- `list-fine`). A list whose size is not refused has at most 256 records (`size-fine`).
 use mathlib.Core.Path.{refl, _∙_}
 use native.Mathlib.Omega.{arith}
-use Rattle.list.proofs.Records.{few, list-size, list-record, list-sum, list-fine}
+use Rattle.list.proofs.Records.{size-fine, list-size, list-record, list-sum, list-fine}
 use borrow.Author.Needs.{needs}
 use Rattle.list.proofs.check.Statement.{statement}
 use Rattle.list.proofs.check.Tie as tie
@@ -11,7 +11,7 @@ returns : tie.Need-returns
 returns c = c .at .ensures ∙ list-size 32 _ _ (c .before .before .size-rule .ensures) (c .before .if1 .taken)
 
 cast-c : tie.Need-cast-c
-cast-c c = omega (arith, few 32 _ _ (c .before .size-rule .ensures) (c .if1 .left))
+cast-c c = omega (arith, size-fine 32 _ _ (c .before .size-rule .ensures) (c .if1 .left))
 
 returns-2 : tie.Need-returns-2
 returns-2 c =
@@ -23,7 +23,7 @@ returns-2 c =
 total-requires : tie.Need-total-requires
 total-requires c κs =
     let sized = c .before .before in
-    few 32 _ _ (sized .before .size-rule .ensures) (sized .if1 .left)
+    size-fine 32 _ _ (sized .before .size-rule .ensures) (sized .if1 .left) .1
 
 returns-3 : tie.Need-returns-3
 returns-3 c =
