@@ -1,6 +1,6 @@
--- `access::halve` meets its contract. The invariant: hi ≤ to, and halving from `lo` to `hi` answers as halving from `from` to `to` does. The measure is
--- hi - lo. Each turn goes below the middle, stops there or goes above it (`turn-less`, `turn-equal`, `turn-greater`); where lo < hi fails nothing is
--- left (`halving-none`).
+-- `access::halve` meets its contract. The invariant: hi ≤ to, and halving from `lo` to `hi` answers as halving from `from` to `to` does.
+-- The measure is hi - lo. Each turn goes below the middle, stops there or goes above it (`turn-less`, `turn-equal`, `turn-greater`); where lo < hi
+-- fails nothing is left (`halving-none`).
 use Prim.Native.Nat.{_+_, _-_, _/_, _^_, _≤_, _<_}
 use mathlib.Core.Path.{_≡_, refl, sym, _∙_}
 use native.Mathlib.Omega.{arith}

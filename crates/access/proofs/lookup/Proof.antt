@@ -16,8 +16,8 @@ use Rattle.access.proofs.lookup.Tie as tie
 
 -- a result that is the definition's is right: the bytes of both slices are bytes
 right : (c : tie.After-fit) {r : Found}
-    → (let a = c .before .before .before .args in
-    r ≡ lookupOf (now (a .s)) (a .f) (now (a .x)) → (r ≡ lookupOf (now (a .s)) (a .f) (now (a .x))) × Right (now (a .s)) (a .f) (now (a .x)) r)
+    → (let a = c .before .before .before .args in let l = now (a .s) in let x = now (a .x) in
+    r ≡ lookupOf l (a .f) x → (r ≡ lookupOf l (a .f) x) × Right l (a .f) x r)
 right c e = both _ _ _ (λ i. c .before .before .shared-slice-known .given i .fits) (λ i. c .before .shared-slice-known2 .given i .fits) e
 
 -- the record fits

@@ -1,5 +1,5 @@
--- `block::blocks` meets its contract. The invariant: i ≤ n, and `w` is the words after the first i blocks of `s`. The measure is n - i. Each turn is
--- one block more (`stepped`), and n is the count of whole blocks.
+-- `block::blocks` meets its contract. The invariant: i ≤ n, and `w` is the words after the first i blocks of `s`.
+-- The measure is n - i. Each turn is one block more (`stepped`), and n is the count of whole blocks.
 use Prim.Native.Nat.{_+_, _*_, _≤_, _-_, _/_}
 use mathlib.Core.Path.{_≡_, refl, _∙_}
 use native.Mathlib.Omega.{arith}

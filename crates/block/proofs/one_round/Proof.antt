@@ -1,4 +1,4 @@
--- `block::one_round` meets its contract: each part of the new first word is a callee's contract.
+-- `block::one_round` meets its contract: each part of the new words is a callee's contract.
 use Rattle.block.specs.Fips.{round}
 use borrow.Author.Needs.{needs}
 use Rattle.block.proofs.one_round.Statement.{statement}

@@ -1,5 +1,6 @@
 -- `block::some_rounds` meets its contract. The invariant: from ≤ t ≤ to, and if `h` is what `from` rounds make of some h₀, then `s` is what t rounds
--- make of it. The measure is to - t. Each turn is one round more (`turned`).
+-- make of it.
+-- The measure is to - t. Each turn is one round more (`turned`).
 use Prim.Native.Nat.{ℕ, _≤_, _-_}
 use mathlib.Core.Path.{_≡_, _∙_}
 use mathlib.Core.List.{List}

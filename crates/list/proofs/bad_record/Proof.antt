@@ -1,5 +1,5 @@
--- `list::bad_record` meets its contract. The invariant: k ≤ n, and the search for a flawed record among all n is the search from k on. The measure is n
--- - k. Each turn passes a record that breaks no rule, or stops at one that does; record k lies in the list (`record-room`).
+-- `list::bad_record` meets its contract. The invariant: k ≤ n, and the search for a flawed record among all n is the search from k on.
+-- The measure is n - k. Each turn passes a record that breaks no rule, or stops at one that does; record k lies in the list (`record-room`).
 use Prim.Native.Nat.{_-_, _≤_}
 use mathlib.Core.Path.{_≡_}
 use native.Mathlib.Omega.{arith}

@@ -1,5 +1,5 @@
--- `list::total` meets its contract. The invariant: k ≤ n, `sum` is the sum of the first k lengths, and it is at most k times 2 ^ 32. The measure is n -
--- k. Each turn adds length k (`before-next`); as n ≤ 256, no sum wraps.
+-- `list::total` meets its contract. The invariant: k ≤ n, `sum` is the sum of the first k lengths, and it is at most k times 2 ^ 32.
+-- The measure is n - k. Each turn adds length k (`before-next`); as n ≤ 256, no sum wraps.
 use Prim.Native.Nat.{_-_, _*_, _≤_}
 use mathlib.Core.Path.{_≡_, refl}
 use native.Mathlib.Omega.{arith}

@@ -1,5 +1,5 @@
--- `name::claimed` meets its contract. The invariant: i ≤ 20, `out` has 20 bytes, and its first i are the first i bytes of the hash. The measure is 20 -
--- i. Each turn stores the byte of two digits (`grown`), which is a byte, for both are below 16 (`digits`).
+-- `name::claimed` meets its contract. The invariant: i ≤ 20, `out` has 20 bytes, and its first i are the first i bytes of the hash.
+-- The measure is 20 - i. Each turn stores the byte of two digits (`grown`), which is a byte, for both are below 16 (`digits`).
 use Prim.Native.Nat.{_+_, _-_, _*_, _<_, _≤_}
 use mathlib.Core.Path.{_≡_, refl}
 use native.Mathlib.Omega.{arith}

@@ -1,5 +1,5 @@
--- `name::odd` meets its contract. The invariant: i ≤ n, and the search for a misfit among all n bytes is the search from i on. The measure is n - i.
--- Each turn passes a byte that is a digit, or stops at one that is none (the rules `searching`).
+-- `name::odd` meets its contract. The invariant: i ≤ n, and the search for a misfit among all n bytes is the search from i on.
+-- The measure is n - i. Each turn passes a byte that is a digit, or stops at one that is none (the rules `searching`).
 use Prim.Native.Nat.{_-_, _≤_}
 use mathlib.Core.Path.{_≡_}
 use native.Mathlib.Omega.{arith}

@@ -1,6 +1,6 @@
 -- `order::compare` meets its contract. The invariant, `Comparing`: n is how many of x's bytes have one in `s` to stand against, and the first k ≤ n of
--- them are the same. The measure is n - k. Each turn adds a pair that is the same (`compare-on`), or two bytes that differ decide; after n bytes x
--- stands against nothing.
+-- them are the same.
+-- The measure is n - k. Each turn adds a pair that is the same (`compare-on`), or two bytes that differ decide; after n bytes x stands against nothing.
 use Prim.Native.Nat.{_-_}
 use mathlib.Core.Path.{refl, sym, _∙_}
 use native.Mathlib.Omega.{arith}

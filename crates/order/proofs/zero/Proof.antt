@@ -1,5 +1,5 @@
--- `order::zero` meets its contract. The invariant: k ≤ length s, and the first k bytes make the number 0. The measure is length s - k. Each turn adds a
--- byte that is 0 (`be-next`); one that is not makes the number more than 0 (`be-some`).
+-- `order::zero` meets its contract. The invariant: k ≤ length s, and the first k bytes make the number 0.
+-- The measure is length s - k. Each turn adds a byte that is 0 (`be-next`); one that is not makes the number more than 0 (`be-some`).
 use native.Mathlib.Nat.{zero-add}
 use Prim.Native.Nat.{_+_, _-_, _≤_, _<_}
 use native.Mathlib.Omega.{arith}

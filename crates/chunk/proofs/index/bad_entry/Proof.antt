@@ -1,5 +1,5 @@
--- `chunk::index::bad_entry` meets its contract. The invariant: i ≤ c, and the search for a bad entry among all c is the search from i on. The measure
--- is c - i. Each turn passes an entry that breaks no rule, or stops at one that does (the rules `searching`).
+-- `chunk::index::bad_entry` meets its contract. The invariant: i ≤ c, and the search for a bad entry among all c is the search from i on.
+-- The measure is c - i. Each turn passes an entry that breaks no rule, or stops at one that does (the rules `searching`).
 use Prim.Native.Nat.{_-_, _≤_}
 use mathlib.Core.Path.{_≡_}
 use native.Mathlib.Omega.{arith}

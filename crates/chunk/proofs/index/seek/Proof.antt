@@ -1,5 +1,5 @@
--- `chunk::index::seek` meets its contract. The invariant: i ≤ n, and the search for the id x among all n entries is the search from i on. The measure
--- is n - i. Each turn passes an entry with another id, or stops at one with x (the rules `searching`).
+-- `chunk::index::seek` meets its contract. The invariant: i ≤ n, and the search for the id x among all n entries is the search from i on.
+-- The measure is n - i. Each turn passes an entry with another id, or stops at one with x (the rules `searching`).
 use Prim.Native.Nat.{_-_, _≤_}
 use mathlib.Core.Path.{_≡_}
 use native.Mathlib.Omega.{arith}

@@ -1,5 +1,6 @@
 -- `file::rules::fan` meets its contract. The invariant: i ≤ 255, `last` is entry i, and the search for an entry that falls among all is the search from
--- i on. The measure is 255 - i. Each turn passes an entry that does not fall, or stops at one that does (`falls-no`, `falls-yes`).
+-- i on.
+-- The measure is 255 - i. Each turn passes an entry that does not fall, or stops at one that does (`falls-no`, `falls-yes`).
 use Prim.Native.Nat.{_*_, _-_, _≤_}
 use mathlib.Core.Path.{_≡_}
 use native.Mathlib.Omega.{arith}

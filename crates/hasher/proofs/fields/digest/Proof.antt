@@ -1,5 +1,5 @@
--- `hasher::fields::digest` meets its contract. The invariant: i ≤ 5, `out` has 20 bytes, and its first 4i are the bytes of the first i words. The
--- measure is 5 - i. Each turn stores the four bytes of word i (`word-stored`).
+-- `hasher::fields::digest` meets its contract. The invariant: i ≤ 5, `out` has 20 bytes, and its first 4i are the bytes of the first i words.
+-- The measure is 5 - i. Each turn stores the four bytes of word i (`word-stored`).
 use Prim.Native.Nat.{_-_, _*_, _≤_}
 use mathlib.Core.Path.{_≡_, refl, sym, _∙_}
 use native.Mathlib.Omega.{arith}

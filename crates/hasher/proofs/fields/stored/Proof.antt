@@ -1,5 +1,5 @@
--- `hasher::fields::stored` meets its contract. The invariant: j ≤ length s, and `out` is `old` with the first j bytes of `s` pasted at n. The measure
--- is length s - j. Each turn stores byte j (`paste-suc`).
+-- `hasher::fields::stored` meets its contract. The invariant: j ≤ length s, and `out` is `old` with the first j bytes of `s` pasted at n.
+-- The measure is length s - j. Each turn stores byte j (`paste-suc`).
 use Prim.Native.Nat.{_-_, _≤_}
 use mathlib.Core.Path.{_≡_}
 use native.Mathlib.Numerals.{add-one}

@@ -1,5 +1,5 @@
--- `words::part::part` meets its contract: where `room` says so the records lie in the slice (`within`), and the bytes from `at` to `e` are
--- theirs (`span`); else the empty part is what is asked for (`uncut`).
+-- `words::part::part` meets its contract: where `room` says so the records lie in the slice (`within`), and the bytes from `at` to `e` are theirs
+-- (`span`); else the empty part is what is asked for (`uncut`).
 use native.Mathlib.Omega.{arith}
 use mathlib.Core.Path.{refl}
 use Prim.Native.Nat.{_+_, _*_, _≤_}
