@@ -1,4 +1,4 @@
--- `walk::in_file` meets its contract.
+-- `walk::in_file` meets its contract: each case of the answer is the row of `answerIn` that it names.
 use Rattle.walk.specs.Walks.{answerIn}
 use borrow.Author.Needs.{needs}
 use Rattle.walk.proofs.in_file.Statement.{statement}

@@ -1,4 +1,4 @@
--- `walk::listing::in_file` meets its contract.
+-- `walk::listing::in_file` meets its contract: each case of the total is the row of `totalIn` that it names.
 use Rattle.walk.specs.Lists.{totalIn}
 use borrow.Author.Needs.{needs}
 use Rattle.walk.proofs.listing.in_file.Statement.{statement}
