@@ -1,4 +1,4 @@
--- `steps::extra_edge` meets its contract.
+-- `steps::extra_edge` meets its contract: the top bit says which row of `extraOf` holds.
 use Rattle.steps.proofs.Walking.{extra-last, extra-more}
 use Rattle.steps.proofs.extra_edge.Statement.{statement}
 use Rattle.steps.proofs.extra_edge.Tie as tie

@@ -13,4 +13,4 @@ unfolding totalIn
 returns-2 c = rw (c .before .before .t2 .given .1, c .of-file .ensures)
 
 pub in-file-spec : {M : Type 1} → statement M
-in-file-spec = tie.close (tie.spec (λ c. search needs) (λ c. search needs) (λ c κs. search needs) returns returns-2)
+in-file-spec = tie.close (tie.spec (search needs) (search needs) (search needs) returns returns-2)
