@@ -26,7 +26,8 @@ use Rattle.parents.specs.declared.Answer.the-variants.{Parent, Refused as No, E
 use Rattle.rules.specs.Rules.{sumRule, sumIn, entryRule, entryIn}
 use Rattle.rules.proofs.Trailers.{sum-plain}
 use Rattle.rules.proofs.Entries.{entry-plain}
-use Rattle.marks.specs.Marks.{run, fieldAt, placeOf, markBy, wordOf, Meets, Reads, Read, refuseMark, dateOf, refuseAsking, entryOf, sizeRule, refuseCheck, pickCheck, trailerAt, checkOf}
+use Rattle.marks.specs.Marks.{run, fieldAt, placeOf, markBy, wordOf, Meets, Reads, Read, refuseMark, dateOf, refuseAsking, entryOf, sizeRule}
+use Rattle.marks.specs.Marks.{refuseCheck, pickCheck, trailerAt, checkOf}
 use Rattle.marks.specs.declared.Mark.{Mark}
 use Rattle.marks.specs.declared.Mark.the-variants.{At, Refused}
 use Rattle.marks.specs.declared.Checked.the-variants.{Right, Wrong, Refused as Bad}

@@ -1,4 +1,4 @@
--- `marks::date_at` meets its contract.
+-- `marks::date_at` meets its contract: a question that the rule passes has its row in the file, so that the date's place neither wraps nor lies outside.
 use Prim.Native.Nat.{ℕ}
 use mathlib.Core.Path.{ap, _∙_}
 use native.Mathlib.Omega.{arith}
@@ -29,8 +29,8 @@ pub date-at-spec : {M : Type 1} → statement M
 date-at-spec =
     tie.close
     (tie.spec
-    (λ c κs. search needs)
-    (λ c κs. search needs)
+    (search needs)
+    (search needs)
     returns
     field-requires
     add-end
