@@ -21,10 +21,10 @@ answer-prefixes-spec =
     (tie.spec
     Inv-loop
     μ-loop
-    (λ c. search needs)
+    (search needs)
     slice-aggregate-answer-file
-    (λ c κs. search needs)
-    (λ c. search needs)
-    (λ c. search needs)
-    (λ c. search needs)
-    (λ c. search needs))
+    (search needs)
+    (search needs)
+    (search needs)
+    (search needs)
+    (search needs))

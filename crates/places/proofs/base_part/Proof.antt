@@ -9,6 +9,6 @@ returns c = rw add-zero at (c .row-at .ensures)
 
 pub base-part-spec : {M : Type 1} → statement M
 base-part-spec = tie.close (tie.spec
-    (λ c. search needs)
-    (λ c κs. search needs)
+    (search needs)
+    (search needs)
     returns)

@@ -27,10 +27,10 @@ pub chain-id-spec : {M : Type 1} → statement M
 chain-id-spec =
     tie.close
     (tie.spec
-    (λ c κs. search needs)
-    (λ c. search needs)
+    (search needs)
+    (search needs)
     row-in-requires
-    (λ c. search needs)
-    (λ c κs. search needs)
+    (search needs)
+    (search needs)
     returns
     returns-2)

@@ -9,5 +9,5 @@ returns c = rw add-zero at (c .row-at .ensures)
 
 pub id-part-spec : {M : Type 1} → statement M
 id-part-spec = tie.close (tie.spec
-    (λ c κs. search needs)
+    (search needs)
     returns)

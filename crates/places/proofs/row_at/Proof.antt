@@ -34,12 +34,12 @@ pub row-at-spec : {M : Type 1} → statement M
 row-at-spec =
     tie.close
     (tie.spec
-    (λ c κs. search needs)
-    (λ c κs. search needs)
-    (λ c κs. search needs)
+    (search needs)
+    (search needs)
+    (search needs)
     returns
     add-part-at
     mul-part-at
     add-part-at-2
-    (λ c κs. search needs)
+    (search needs)
     returns-2)

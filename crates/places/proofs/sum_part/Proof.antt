@@ -23,10 +23,10 @@ pub sum-part-spec : {M : Type 1} → statement M
 sum-part-spec =
     tie.close
     (tie.spec
-    (λ c κs. search needs)
-    (λ c κs. search needs)
-    (λ c κs. search needs)
+    (search needs)
+    (search needs)
+    (search needs)
     returns
     sub-part-at
-    (λ c κs. search needs)
+    (search needs)
     returns-2)

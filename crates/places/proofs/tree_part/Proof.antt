@@ -8,5 +8,5 @@ returns c = c .row-at .ensures
 
 pub tree-part-spec : {M : Type 1} → statement M
 tree-part-spec = tie.close (tie.spec
-    (λ c κs. search needs)
+    (search needs)
     returns)

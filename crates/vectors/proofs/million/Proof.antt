@@ -21,15 +21,15 @@ million-spec =
     (tie.spec
     Inv-loop
     μ-loop
-    (λ c κs. search needs)
-    (λ c. search needs)
-    (λ c κs. search needs)
+    (search needs)
+    (search needs)
+    (search needs)
     (λ c. omega arith)
     slice-aggregate-update
-    (λ c κs. search needs)
+    (search needs)
     (λ c. omega arith)
     (λ c. omega arith)
     (λ c. omega arith)
     (λ c. omega arith)
-    (λ c κs. search needs)
-    (λ c. search needs))
+    (search needs)
+    (search needs))

@@ -22,7 +22,7 @@ pattern-spec =
     (tie.spec
     Inv-loop
     μ-loop
-    (λ c. search needs)
+    (search needs)
     (λ c. omega arith)
     (λ c. omega arith)
     (λ c. omega arith)
@@ -30,4 +30,4 @@ pattern-spec =
     (λ c. omega arith)
     (λ c. omega arith)
     loop-again
-    (λ c. search needs))
+    (search needs))

@@ -22,12 +22,12 @@ print-spec =
     (tie.spec
     Inv-loop
     μ-loop
-    (λ c. search needs)
+    (search needs)
     (λ c. omega arith)
-    (λ c κs. search needs)
+    (search needs)
     (λ c. omega arith)
     (λ c. omega arith)
-    (λ c κs. search needs)
+    (search needs)
     (λ c. omega arith)
     (λ c. omega arith)
     (λ c. omega arith)
@@ -35,5 +35,5 @@ print-spec =
     (λ c. omega arith)
     loop-again
     (λ c. omega arith)
-    (λ c κs. search needs)
-    (λ c. search needs))
+    (search needs)
+    (search needs))

@@ -1,4 +1,4 @@
--- `exports::single::jampreso_entry` meets its contract.
+-- `exports::single::jampreso_entry` meets its contract: the image (`flatEntry`) of what `nth` answers.
 use mathlib.Core.Path.{ap, _∙_}
 use Rattle.flat.specs.Images.{flatEntry}
 use borrow.Author.Needs.{needs}
@@ -12,6 +12,6 @@ pub jampreso-entry-spec : {M : Type 1} → statement M
 jampreso-entry-spec =
     tie.close
     (tie.spec
-    (λ c κs. search needs)
-    (λ c κs. search needs)
+    (search needs)
+    (search needs)
     returns)

@@ -1,4 +1,4 @@
--- `exports::single::jampreso_file_checksum` meets its contract.
+-- `exports::single::jampreso_file_checksum` meets its contract: what `sum_part` answers, of the file that the record stands for.
 use borrow.Author.Needs.{needs}
 use Rattle.exports.proofs.single.jampreso_file_checksum.Statement.{statement}
 use Rattle.exports.proofs.single.jampreso_file_checksum.Tie as tie
@@ -10,6 +10,6 @@ pub jampreso-file-checksum-spec : {M : Type 1} → statement M
 jampreso-file-checksum-spec =
     tie.close
     (tie.spec
-    (λ c κs. search needs)
-    (λ c κs. search needs)
+    (search needs)
+    (search needs)
     returns)

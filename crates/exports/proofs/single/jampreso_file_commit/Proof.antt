@@ -1,4 +1,4 @@
--- `exports::single::jampreso_file_commit` meets its contract.
+-- `exports::single::jampreso_file_commit` meets its contract: the image (`flatCommit`) of what `commit_at` answers, of the file that the record stands for.
 use mathlib.Core.Path.{ap, _∙_}
 use Rattle.flat.specs.Images.{flatCommit}
 use borrow.Author.Needs.{needs}
@@ -11,7 +11,7 @@ returns c = rw (← c .before .before .file-of .ensures) (c .commit-flat .ensure
 pub jampreso-file-commit-spec : {M : Type 1} → statement M
 jampreso-file-commit-spec =
     tie.close (tie.spec
-    (λ c κs. search needs)
-    (λ c κs. search needs)
-    (λ c κs. search needs)
+    (search needs)
+    (search needs)
+    (search needs)
     returns)

@@ -1,4 +1,4 @@
--- `exports::single::jampreso_file_date` meets its contract.
+-- `exports::single::jampreso_file_date` meets its contract: the image (`flatMark`) of what `date_at` answers, of the file that the record stands for.
 use mathlib.Core.Path.{ap, _∙_}
 use Rattle.flat.specs.Images.{flatMark}
 use borrow.Author.Needs.{needs}
@@ -12,7 +12,7 @@ pub jampreso-file-date-spec : {M : Type 1} → statement M
 jampreso-file-date-spec =
     tie.close
     (tie.spec
-    (λ c κs. search needs)
-    (λ c κs. search needs)
-    (λ c κs. search needs)
+    (search needs)
+    (search needs)
+    (search needs)
     returns)

@@ -1,4 +1,4 @@
--- `exports::single::jampreso_file_entry` meets its contract.
+-- `exports::single::jampreso_file_entry` meets its contract: the image (`flatAsked`) of what `entry_at` answers, of the file that the record stands for.
 use mathlib.Core.Path.{ap, _∙_}
 use Rattle.flat.specs.Images.{flatAsked}
 use borrow.Author.Needs.{needs}
@@ -12,7 +12,7 @@ pub jampreso-file-entry-spec : {M : Type 1} → statement M
 jampreso-file-entry-spec =
     tie.close
     (tie.spec
-    (λ c κs. search needs)
-    (λ c κs. search needs)
-    (λ c κs. search needs)
+    (search needs)
+    (search needs)
+    (search needs)
     returns)

@@ -1,4 +1,4 @@
--- `exports::single::jampreso_file_id` meets its contract.
+-- `exports::single::jampreso_file_id` meets its contract: what `id_part` answers, of the file that the record stands for.
 use borrow.Author.Needs.{needs}
 use Rattle.exports.proofs.single.jampreso_file_id.Statement.{statement}
 use Rattle.exports.proofs.single.jampreso_file_id.Tie as tie
@@ -10,6 +10,6 @@ pub jampreso-file-id-spec : {M : Type 1} → statement M
 jampreso-file-id-spec =
     tie.close
     (tie.spec
-    (λ c κs. search needs)
-    (λ c κs. search needs)
+    (search needs)
+    (search needs)
     returns)

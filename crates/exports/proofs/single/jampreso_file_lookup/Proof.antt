@@ -1,4 +1,4 @@
--- `exports::single::jampreso_file_lookup` meets its contract.
+-- `exports::single::jampreso_file_lookup` meets its contract: the image (`flatFoundIn`) of what `lookup` answers, of the file that the record stands for.
 use mathlib.Core.Path.{ap, _∙_}
 use Rattle.flat.specs.Images.{flatFoundIn}
 use borrow.Author.Needs.{needs}
@@ -12,7 +12,7 @@ pub jampreso-file-lookup-spec : {M : Type 1} → statement M
 jampreso-file-lookup-spec =
     tie.close
     (tie.spec
-    (λ c κs. search needs)
-    (λ c κs. search needs)
-    (λ c κs. search needs)
+    (search needs)
+    (search needs)
+    (search needs)
     returns)

@@ -15,8 +15,8 @@ pub jampreso-file-step-spec : {M : Type 1} → statement M
 jampreso-file-step-spec =
     tie.close
     (tie.spec
-    (λ c κs. search needs)
-    (λ c κs. search needs)
-    (λ c κs. search needs)
-    (λ c κs. search needs)
+    (search needs)
+    (search needs)
+    (search needs)
+    (search needs)
     returns)

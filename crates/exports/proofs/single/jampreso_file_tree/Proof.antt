@@ -10,6 +10,6 @@ pub jampreso-file-tree-spec : {M : Type 1} → statement M
 jampreso-file-tree-spec =
     tie.close
     (tie.spec
-    (λ c κs. search needs)
-    (λ c κs. search needs)
+    (search needs)
+    (search needs)
     returns)

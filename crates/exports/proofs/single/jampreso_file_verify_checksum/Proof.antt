@@ -12,7 +12,7 @@ pub jampreso-file-verify-checksum-spec : {M : Type 1} → statement M
 jampreso-file-verify-checksum-spec =
     tie.close
     (tie.spec
-    (λ c κs. search needs)
-    (λ c κs. search needs)
-    (λ c κs. search needs)
+    (search needs)
+    (search needs)
+    (search needs)
     returns)

@@ -14,8 +14,8 @@ pub jampreso-file-word-spec : {M : Type 1} → statement M
 jampreso-file-word-spec =
     tie.close
     (tie.spec
-    (λ c κs. search needs)
-    (λ c κs. search needs)
-    (λ c κs. search needs)
-    (λ c κs. search needs)
+    (search needs)
+    (search needs)
+    (search needs)
+    (search needs)
     returns)

@@ -10,5 +10,5 @@ returns c = ap flatName (c .before .read .ensures)
 
 pub jampreso-name-spec : {M : Type 1} → statement M
 jampreso-name-spec = tie.close (tie.spec
-    (λ c κs. search needs)
+    (search needs)
     returns)

@@ -10,5 +10,5 @@ returns c = ap flatDigest (c .sha1 .ensures)
 
 pub jampreso-sha1-spec : {M : Type 1} → statement M
 jampreso-sha1-spec = tie.close (tie.spec
-    (λ c κs. search needs)
+    (search needs)
     returns)

@@ -10,6 +10,6 @@ returns c = c .commit-flat .ensures ∙ ap flatCommit (c .before .commit-at .ens
 
 pub jampreso-commit-spec : {M : Type 1} → statement M
 jampreso-commit-spec = tie.close (tie.spec
-    (λ c κs. search needs)
-    (λ c κs. search needs)
+    (search needs)
+    (search needs)
     returns)

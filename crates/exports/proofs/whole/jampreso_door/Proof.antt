@@ -20,7 +20,7 @@ returns c =
 pub jampreso-door-spec : {M : Type 1} → statement M
 jampreso-door-spec =
     tie.close (tie.spec
-    (λ c κs. search needs)
-    (λ c κs. search needs)
-    (λ c κs. search needs)
+    (search needs)
+    (search needs)
+    (search needs)
     returns)

@@ -12,7 +12,7 @@ returns c =
 
 pub jampreso-list-spec : {M : Type 1} → statement M
 jampreso-list-spec = tie.close (tie.spec
-    (λ c κs. search needs)
-    (λ c κs. search needs)
-    (λ c. search needs)
+    (search needs)
+    (search needs)
+    (search needs)
     returns)

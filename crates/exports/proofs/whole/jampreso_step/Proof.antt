@@ -18,7 +18,7 @@ returns c =
 
 pub jampreso-step-spec : {M : Type 1} → statement M
 jampreso-step-spec = tie.close (tie.spec
-    (λ c κs. search needs)
-    (λ c κs. search needs)
-    (λ c κs. search needs)
+    (search needs)
+    (search needs)
+    (search needs)
     returns)

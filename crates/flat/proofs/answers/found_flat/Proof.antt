@@ -20,9 +20,9 @@ pub found-flat-spec : {M : Type 1} → statement M
 found-flat-spec =
     tie.close
     (tie.spec
-    (λ c. search needs)
-    (λ c. search needs)
-    (λ c. search needs)
+    (search needs)
+    (search needs)
+    (search needs)
     returns
     returns-2
     returns-3)

@@ -16,5 +16,5 @@ returns-2 c = rw (ne-eqb _ 0 (c .before .if1 .left), c .end-of .ensures)
 pub edge-of-spec : {M : Type 1} → statement M
 edge-of-spec = tie.close (tie.spec
     returns
-    (λ c κs. search needs)
+    (search needs)
     returns-2)

@@ -13,7 +13,7 @@ returns-2 c = end-fits _ _ (omega arith)
 
 pub end-of-spec : {M : Type 1} → statement M
 end-of-spec = tie.close (tie.spec
-    (λ c. search needs)
+    (search needs)
     returns
-    (λ c. search needs)
+    (search needs)
     returns-2)

@@ -10,6 +10,6 @@ returns c = rw (c .before .edge-of .ensures)
 
 pub file-of-spec : {M : Type 1} → statement M
 file-of-spec = tie.close (tie.spec
-    (λ c κs. search needs)
-    (λ c. search needs)
+    (search needs)
+    (search needs)
     returns)

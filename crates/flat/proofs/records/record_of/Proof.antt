@@ -12,8 +12,8 @@ returns c =
 
 pub record-of-spec : {M : Type 1} → statement M
 record-of-spec = tie.close (tie.spec
-    (λ c κs. search needs)
-    (λ c κs. search needs)
-    (λ c. search needs)
-    (λ c κs. search needs)
+    (search needs)
+    (search needs)
+    (search needs)
+    (search needs)
     returns)

@@ -10,4 +10,4 @@ returns-2 : tie.Need-returns-2
 returns-2 c = rw (c .enum-told .given .1)
 
 pub steps-of-spec : {M : Type 1} → statement M
-steps-of-spec = tie.close (tie.spec (λ c. search needs) (λ c. search needs) returns returns-2)
+steps-of-spec = tie.close (tie.spec (search needs) (search needs) returns returns-2)

@@ -17,5 +17,5 @@ returns-4 c = rw (c .enum-told4 .given .1)
 
 pub phase-kind-spec : {M : Type 1} → statement M
 phase-kind-spec =
-    tie.close (tie.spec (λ c. search needs) (λ c. search needs) (λ c. search needs) (λ c. search needs) returns returns-2 returns-3
+    tie.close (tie.spec (search needs) (search needs) (search needs) (search needs) returns returns-2 returns-3
     returns-4)

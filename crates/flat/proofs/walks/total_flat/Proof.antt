@@ -14,7 +14,7 @@ returns-2 c = rw (c .before .t2 .given .1)
 
 pub total-flat-spec : {M : Type 1} → statement M
 total-flat-spec = tie.close (tie.spec
-    (λ c. search needs)
-    (λ c. search needs)
+    (search needs)
+    (search needs)
     returns
     returns-2)

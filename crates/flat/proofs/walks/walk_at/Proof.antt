@@ -8,5 +8,5 @@ returns c = rw (c .phase-of .ensures)
 
 pub walk-at-spec : {M : Type 1} → statement M
 walk-at-spec = tie.close (tie.spec
-    (λ c κs. search needs)
+    (search needs)
     returns)
