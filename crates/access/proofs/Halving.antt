@@ -6,6 +6,7 @@ use mathlib.Core.Logic.{⊎-elim}
 use native.Mathlib.Omega.{arith}
 use native.Mathlib.Nat.{eq-or-lt-of-le, le-refl}
 use borrow.Author.Tests.{le-leb, lt-leb}
+use Rattle.words.specs.First.{_if_else_}
 use Rattle.types.specs.declared.refusal.Refusal.{Refusal}
 use Rattle.types.specs.declared.file.Position.{Position}
 use Rattle.words.specs.Big.{be}
@@ -14,7 +15,7 @@ use Rattle.words.proofs.Numbers.{le-or-lt}
 use Rattle.order.proofs.Ordered.{order-less, order-equal, order-greater, told}
 use Rattle.order.specs.declared.Order.{Order}
 use Rattle.order.specs.declared.Order.the-variants.{Less, Equal, Greater}
-use Rattle.access.specs.Lookup.{found, pick, turn, mid, turns, halving, lower}
+use Rattle.access.specs.Lookup.{found, turn, mid, turns, halving, lower}
 use Rattle.access.specs.declared.Found.{Found}
 use Rattle.access.specs.declared.Found.the-variants.{Absent, Refused}
 
@@ -24,7 +25,7 @@ found-same m i e = let z : _≡_ {A = Position} (record { 0 = m }) (record { 0 =
 module _ (key : ℕ → ℕ) (x : ℕ) where
   -- more turns change nothing
   enough : (k m lo hi : ℕ) → hi - lo ≤ k → hi - lo ≤ m → turns key x k lo hi ≡ turns key x m lo hi
-  unfolding turns pick
+  unfolding turns _if_else_
   enough zero zero lo hi h g = refl
   enough zero (suc m) lo hi h g = let e : hi ≤ lo = omega arith in rw (le-leb hi lo e)
   enough (suc k) zero lo hi h g = let e : hi ≤ lo = omega arith in rw (le-leb hi lo e)
@@ -39,7 +40,7 @@ module _ (key : ℕ → ℕ) (x : ℕ) where
   opens : (lo hi : ℕ) → lo < hi
       → halving key x lo hi
       ≡ turn (order x (key (mid lo hi))) (halving key x lo (mid lo hi)) (found (mid lo hi)) (halving key x (mid lo hi + 1) hi)
-  unfolding halving turns pick
+  unfolding halving turns _if_else_
   opens lo hi h =
       let n : hi - lo ≡ suc (hi - lo - 1) = omega arith in
       rw (

@@ -1,37 +1,31 @@
 -- The ways through a lookup.
-use Prim.Native.Nat.{ℕ, zero, suc, _*_, _≤_, _<_}
+use Prim.Native.Nat.{ℕ, _≤_, _<_}
 use mathlib.Core.List.{List}
 use mathlib.Core.Bool.{not}
-use mathlib.Core.Path.{_≡_, refl, ap, _∙_}
+use mathlib.Core.Path.{_≡_, refl, ap, _∙_, sym}
 use native.Mathlib.Omega.{arith}
 use lib.Dec.{ltb, eqb, lit<}
 use lib.ListN.{length, getD}
 use borrow.Author.Tests.{lt-ltb, le-ltb, ltb-false}
 use Rattle.types.specs.Refusals.{refusal}
 use Rattle.words.specs.Big.{number}
-use Rattle.words.specs.First.{_if_else_}
-use Rattle.words.proofs.Rows.{hit, miss, pass, eq-not, ne-not}
+use Rattle.words.specs.First.{_if_else_, refuse}
+use Rattle.words.proofs.Rows.{hit, miss, pass, eq-not, ne-not, refuse-some, refuse-none, refuse-other}
 use Rattle.fit.specs.Fits.{fitRule, fanPart, idsPart}
-use Rattle.access.specs.Lookup.{found, halving, keyOf, upper, lower, refuse, lookupOf}
+use Rattle.access.specs.Lookup.{found, halving, keyOf, upper, lower, lookupOf, notFound}
 use Rattle.file.specs.declared.File.{File}
 use Rattle.access.proofs.Halving.{halving-sound}
 use Rattle.access.specs.declared.Found.{Found}
 use Rattle.access.specs.declared.Found.the-variants.{Refused}
 
-refuse-yes : (n : ℕ) (rest : Found) → 0 < n → Refused (refusal n 0) ≡ refuse n rest
-unfolding refuse
-refuse-yes zero rest h = absurd (omega arith)
-refuse-yes (suc n) rest h = refl
-
-refuse-no : {n : ℕ} {rest r : Found} → 0 ≡ n → r ≡ rest → r ≡ refuse n rest
-unfolding refuse
-refuse-no e h = rw (← e) h
+past : {n : ℕ} {rest r : Found} → 0 ≡ n → r ≡ rest → r ≡ refuse n notFound rest
+past e h = h ∙ sym (refuse-none notFound _ (sym e))
 
 -- m is what the record's rule said
 module _ (l : List ℕ) (f : File) (x : List ℕ) {m : ℕ} (e : m ≡ fitRule l f) where
   pub look-misfit : 0 < m → Refused (refusal m 0) ≡ lookupOf l f x
   unfolding lookupOf
-  look-misfit h = rw (← e) (refuse-yes m _ h)
+  look-misfit h = rw (← e) (refuse-some m notFound _ h)
 
   module _ (z : m ≤ 0) where
     none : 0 ≡ fitRule l f
@@ -40,33 +34,31 @@ module _ (l : List ℕ) (f : File) (x : List ℕ) {m : ℕ} (e : m ≡ fitRule l
     pub look-width : (length x ≡ f .width → ⊥) → Refused (refusal 41 0) ≡ lookupOf l f x
     unfolding lookupOf
     look-width h =
-        refuse-no none (ap (λ (n : ℕ). Refused (refusal n 0)) (hit 41 _ 0 (ne-not _ _ h))
-        ∙ refuse-yes _ _ (rw (← hit 41 _ 0 (ne-not _ _ h)) (omega arith)))
+        let q : _≡_ {A = ℕ} 41 (41 if not (eqb (length x) (f .width)) else 0) = hit 41 _ 0 (ne-not _ _ h) in
+        past none (ap notFound q ∙ refuse-some _ notFound _ (rw (← q) (omega arith)))
 
     -- `to` is the fan entry of the id's first byte
     module _ (w : length x ≡ f .width) {to : ℕ} (d : to ≡ upper (fanPart l f) (getD x 0 0)) where
-      wide : 0 ≡ (41 if not (eqb (length x) (f .width)) else 0)
+      wide : _≡_ {A = ℕ} 0 (41 if not (eqb (length x) (f .width)) else 0)
       wide = miss 41 _ 0 0 (eq-not _ _ w) refl
 
       pub look-out : f .commits < to → Refused (refusal 40 0) ≡ lookupOf l f x
       unfolding lookupOf
       look-out h =
-          let q : 40 ≡ (40 if ltb (f .commits) (upper (fanPart l f) (getD x 0 0)) else 0) =
+          let q : _≡_ {A = ℕ} 40 (40 if ltb (f .commits) (upper (fanPart l f) (getD x 0 0)) else 0) =
           hit 40 _ 0 (lt-ltb (f .commits) _ (omega arith)) in
-          refuse-no none (refuse-no wide (ap (λ (n : ℕ). Refused (refusal n 0)) q ∙ refuse-yes _ _ (rw (← q) (omega arith))))
+          past none (past wide (ap notFound q ∙ refuse-some _ notFound _ (rw (← q) (omega arith))))
 
       pub look-search : to ≤ f .commits → {from : ℕ} → from ≡ lower (fanPart l f) (getD x 0 0)
           → halving (keyOf (length x) (idsPart l f)) (number x) from to ≡ lookupOf l f x
       unfolding lookupOf
       look-search h g =
-          refuse-no none (refuse-no wide
-          (refuse-no (miss 40 _ 0 0 (le-ltb (f .commits) _ (omega arith)) refl) (rw (w, g, d))))
+          past none (past wide
+          (past (miss 40 _ 0 0 (le-ltb (f .commits) _ (omega arith)) refl) (rw (w, g, d))))
 
 -- what is found lies below N, on any bytes
-found-refuse : (n : ℕ) (rest : Found) (i : ℕ) → refuse n rest ≡ found i → (n ≡ 0) × (rest ≡ found i)
-unfolding refuse
-found-refuse zero rest i e = (refl, e)
-found-refuse (suc n) rest i e = let z : _≡_ {A = ℕ} 0 1 = cc in absurd (omega arith)
+found-refuse : (n : ℕ) (rest : Found) (i : ℕ) → refuse n notFound rest ≡ found i → (n ≡ 0) × (rest ≡ found i)
+found-refuse n rest i e = refuse-other n notFound rest (λ m q. let z : _≡_ {A = ℕ} 0 1 = cc in omega arith) e
 
 pub found-below : (l : List ℕ) (f : File) (x : List ℕ) (i : ℕ) → lookupOf l f x ≡ found i → i < f .commits
 unfolding lookupOf

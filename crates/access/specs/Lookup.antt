@@ -1,14 +1,14 @@
 -- Lookup in one file: the crate's fan bounds and halving, as a function on any bytes; and the ids that a file stores.
 use Prim.Native.Nat.{ℕ, zero, suc, _+_, _-_, _*_, _/_, _≤_, _<_}
 use mathlib.Core.List.{List}
-use mathlib.Core.Bool.{Bool, true, false, not}
+use mathlib.Core.Bool.{not}
 use mathlib.Core.Path.{_≡_}
 use mathlib.Core.Logic.{_⊎_}
 use lib.ListN.{length, getD, take, drop}
 use lib.Dec.{ltb, leb, eqb}
 use Rattle.types.specs.Refusals.{refusal}
 use Rattle.words.specs.Big.{be, number}
-use Rattle.words.specs.First.{_if_else_}
+use Rattle.words.specs.First.{_if_else_, refuse}
 use Rattle.order.specs.Order.{order}
 use Rattle.order.specs.declared.Order.{Order}
 use Rattle.order.specs.declared.Order.the-variants.{Less, Equal, Greater}
@@ -30,10 +30,6 @@ abbrev pub found : ℕ → Found
 found n = At (record { 0 = n })
 
 -- search by halving, on any numbers: at most k turns
-unfoldable pub pick : Bool → Found → Found → Found
-pick true a b = a
-pick false a b = b
-
 unfoldable pub turn : Order → Found → Found → Found → Found
 turn Less a b c = a
 turn Equal a b c = b
@@ -45,11 +41,11 @@ mid lo hi = (lo + hi) / 2
 unfoldable pub turns : (ℕ → ℕ) → ℕ → ℕ → ℕ → ℕ → Found
 turns key x zero lo hi = Absent
 turns key x (suc k) lo hi =
-    pick (leb hi lo) Absent
-    (turn (order x (key (mid lo hi)))
+    Absent if leb hi lo else
+    turn (order x (key (mid lo hi)))
     (turns key x k lo (mid lo hi))
     (found (mid lo hi))
-    (turns key x k (mid lo hi + 1) hi))
+    (turns key x k (mid lo hi + 1) hi)
 
 -- x among key lo .. key (hi - 1): look in the middle; go below it, stop, or go above it; hi - lo turns are enough
 unfoldable pub halving : (ℕ → ℕ) → ℕ → ℕ → ℕ → Found
@@ -67,16 +63,15 @@ unfoldable pub lower : List ℕ → ℕ → ℕ
 lower p zero = 0
 lower p (suc b) = upper p b
 
-unfoldable pub refuse : ℕ → Found → Found
-refuse zero rest = rest
-refuse (suc n) rest = Refused (refusal (suc n) 0)
+abbrev pub notFound : ℕ → Found
+notFound n = Refused (refusal n 0)
 
 -- the record fits, then the id's width, then the fan's bounds lie among the ids
 unfoldable pub lookupOf : List ℕ → File → List ℕ → Found
 lookupOf l f x =
-    refuse (fitRule l f)
-    (refuse (41 if not (eqb (length x) (f .width)) else 0)
-    (refuse (40 if ltb (f .commits) (upper (fanPart l f) (getD x 0 0)) else 0)
+    refuse (fitRule l f) notFound
+    (refuse (41 if not (eqb (length x) (f .width)) else 0) notFound
+    (refuse (40 if ltb (f .commits) (upper (fanPart l f) (getD x 0 0)) else 0) notFound
     (halving (keyOf (f .width) (idsPart l f)) (number x) (lower (fanPart l f) (getD x 0 0)) (upper (fanPart l f) (getD x 0 0)))))
 
 -- ── what a lookup is for ──

@@ -7,6 +7,7 @@ use mathlib.Core.Logic.{⊎-elim}
 use native.Mathlib.Omega.{arith}
 use lib.ListN.{length}
 use borrow.Author.Tests.{le-ltb, eqb-true}
+use Rattle.words.specs.First.{_if_else_}
 use Rattle.types.specs.declared.graph.Position.{Position}
 use Rattle.words.specs.Big.{Bytes}
 use Rattle.words.specs.Sums.{before}
@@ -22,7 +23,7 @@ use Rattle.access.specs.Lookup.{found, stored, Finds, Right, lookupOf as lookup
 use Rattle.access.proofs.Halving.{found-same}
 use Rattle.access.proofs.Stores.{stored-long, stored-bytes, answers, both}
 use Rattle.graph.specs.Chain.{commitsOf, startAt, partAt, openAt, countAt, firstAt, commitsIn, fileOf, posOf, opened}
-use Rattle.ask.specs.Lookups.{findIn, place, shift, findAt, lookFrom, pickFound, lookupOf}
+use Rattle.ask.specs.Lookups.{findIn, place, shift, findAt, lookFrom, lookupOf}
 use Rattle.ask.specs.Theorems.{storedIn, idOf, Sorted, Exact, Right as Promised, Agrees}
 use Rattle.ask.specs.declared.lookup.Found.{Found}
 use Rattle.ask.specs.declared.lookup.Found.the-variants.{Absent}
@@ -140,7 +141,7 @@ module _ (z : ℕ) (c l : List ℕ) where
           (along left (k + 1) (omega arith))
 
       pub exact : Exact z c l x (lookupOf z c l x)
-      unfolding lookupOf pickFound before
+      unfolding lookupOf _if_else_ before
       exact =
           rw (le-ltb 0 (opened z c l .number) (omega (arith, s .opens)), eq-not (length x) 20 w)
           (exact-of (along (recordsOf z l) 0 (omega arith)))

@@ -8,6 +8,7 @@ use native.Mathlib.Nat.{sub-zero}
 use lib.Dec.{ltb}
 use lib.ListN.{length}
 use borrow.Author.Tests.{lt-ltb, le-ltb}
+use Rattle.words.specs.First.{_if_else_}
 use Rattle.types.specs.Refusals.{refusal}
 use Rattle.types.specs.declared.refusal.Refusal.{Refusal}
 use Rattle.list.specs.List.{recordsOf}
@@ -19,7 +20,7 @@ use Rattle.access.specs.declared.Found.the-variants.{At as FileAt, Absent as Fi
 use Rattle.access.proofs.Looks.{found-below}
 use Rattle.words.proofs.Rows.{eq-not, ne-not}
 use Rattle.graph.specs.Chain.{placed, partAt, openAt, firstAt, opened, Listed}
-use Rattle.ask.specs.Lookups.{findIn, place, shift, findAt, lookFrom, pickFound, lookupOf, noteFile, pickHit, notedOf, hitOr, Looked}
+use Rattle.ask.specs.Lookups.{findIn, place, shift, findAt, lookFrom, lookupOf, noteFile, notedOf, hitOr, Looked}
 use Rattle.ask.specs.declared.lookup.Found.{Found}
 use Rattle.ask.specs.declared.lookup.Found.the-variants.{Absent, Refused as Not}
 use Rattle.ask.specs.declared.lookup.Hit.{Hit}
@@ -28,25 +29,25 @@ use Rattle.graph.proofs.Views.{numbers}
 
 -- one file more: it is noted as the definition shifts it
 note-shift : (h : Hit) (sum : ℕ) (y : FileFound) (rest : Found) → hitOr h (shift sum y rest) ≡ hitOr (notedOf h sum y) rest
-unfolding hitOr notedOf pickHit pickFound shift noteFile
+unfolding hitOr notedOf _if_else_ shift noteFile
 note-shift h sum y rest = go (h .seen) refl y
   where
     go : (t : Bool) → h .seen ≡ t → (y : FileFound)
-        → pickFound t (place (h .pos)) (shift sum y rest)
-        ≡ pickFound (pickHit t h (noteFile h sum y) .seen) (place (pickHit t h (noteFile h sum y) .pos)) rest
-    go true e y = sym (ap (λ (b : Bool). pickFound b (place (h .pos)) rest) e)
+        → (place (h .pos) if t else shift sum y rest)
+        ≡ (place ((h if t else noteFile h sum y) .pos) if (h if t else noteFile h sum y) .seen else rest)
+    go true e y = sym (ap (λ (b : Bool). (place (h .pos) if b else rest)) e)
     go false e (FileAt p) = refl
-    go false e FileAbsent = sym (ap (λ (b : Bool). pickFound b (place (h .pos)) rest) e)
-    go false e (FileRefused r) = sym (ap (λ (b : Bool). pickFound b (place (h .pos)) rest) e)
+    go false e FileAbsent = sym (ap (λ (b : Bool). (place (h .pos) if b else rest)) e)
+    go false e (FileRefused r) = sym (ap (λ (b : Bool). (place (h .pos) if b else rest)) e)
 
 -- the ways through what is noted
 module _ (h : Hit) (sum : ℕ) (y : FileFound) where
   pub noted-seen : h .seen ≡ true → h ≡ notedOf h sum y
-  unfolding notedOf pickHit
+  unfolding notedOf _if_else_
   noted-seen e = rw e
 
   pub noted-new : h .seen ≡ false → {v : FileFound} → y ≡ v → noteFile h sum v ≡ notedOf h sum y
-  unfolding notedOf pickHit
+  unfolding notedOf _if_else_
   noted-new e q = rw (e, q)
 
 pub record Looking (z : ℕ) (c l : List ℕ) (n : ℕ) (x : List ℕ) (k at sum : ℕ) (h : Hit) : Type 0 where
@@ -55,7 +56,7 @@ pub record Looking (z : ℕ) (c l : List ℕ) (n : ℕ) (x : List ℕ) (k at sum
 
 module _ {z : ℕ} {c l : List ℕ} {n : ℕ} (d : Listed z c l n) (x : List ℕ) where
   pub look-begins : (h : Hit) → h .seen ≡ false → Looking z c l n x 0 0 0 h
-  unfolding hitOr pickFound
+  unfolding hitOr _if_else_
   look-begins h e = record { along = along-begins z c l d; answer = rw (e, sub-zero) }
 
   module _ {k at sum : ℕ} {h : Hit} (p : Looking z c l n x k at sum h) where
@@ -100,7 +101,7 @@ module _ {z : ℕ} {c l : List ℕ} {n : ℕ} (d : Listed z c l n) (x : List ℕ
 -- the ways through a lookup
 module _ (z : ℕ) (c l x : List ℕ) where
   pub find-refused : {m : Refusal} → m ≡ opened z c l → 0 < m .number → Not m ≡ lookupOf z c l x
-  unfolding lookupOf pickFound
+  unfolding lookupOf _if_else_
   find-refused e h = rw (lt-ltb 0 (opened z c l .number) (omega (arith, numbers e))) (ap Not e)
 
   module _ {m : Refusal} (e : m ≡ opened z c l) (h : m .number ≤ 0) where
@@ -108,14 +109,14 @@ module _ (z : ℕ) (c l x : List ℕ) where
     none = le-ltb 0 (opened z c l .number) (omega (arith, numbers e))
 
     pub find-width : (length x ≡ 20 → ⊥) → {q : Refusal} → q ≡ refusal 41 0 → Not q ≡ lookupOf z c l x
-    unfolding lookupOf pickFound
+    unfolding lookupOf _if_else_
     find-width g d = rw (none, ne-not (length x) 20 g) (ap Not d)
 
     module _ (g : length x ≡ 20) (k : Hit) (a : lookFrom z c l x 0 (recordsOf z l) ≡ hitOr k Absent) where
       pub find-at : k .seen ≡ true → place (k .pos) ≡ lookupOf z c l x
-      unfolding lookupOf pickFound hitOr
+      unfolding lookupOf _if_else_ hitOr
       find-at t = rw (none, eq-not (length x) 20 g, a, t)
 
       pub find-absent : k .seen ≡ false → Absent ≡ lookupOf z c l x
-      unfolding lookupOf pickFound hitOr
+      unfolding lookupOf _if_else_ hitOr
       find-absent t = rw (none, eq-not (length x) 20 g, a, t)

@@ -25,7 +25,7 @@ use Rattle.commit.specs.declared.Asked.{Asked}
 use Rattle.commit.specs.declared.Asked.the-variants.{Refused as Not}
 use Rattle.graph.specs.Chain.{widthIn, startAt, partAt, openAt, fileOf, posOf, asked}
 use Rattle.graph.specs.Spots.{located}
-use Rattle.ask.specs.Questions.{pickAsking, askingBy, idIn, treeIn, IdPart, TreePart, commitIn, pickAsked, commitOf}
+use Rattle.ask.specs.Questions.{askingBy, idIn, treeIn, IdPart, TreePart, commitIn, commitOf}
 use Rattle.ask.specs.Theorems.{storedIn, idOf, ReadsId}
 use Rattle.graph.specs.Theorems.{Spotted, FileOf}
 use Rattle.graph.specs.declared.locate.Located.the-variants.{At, Refused as Nowhere}
@@ -49,7 +49,7 @@ module _ (z : ℕ) (c : RefT (List ℕ)) (l : List ℕ) (g : ℕ) where
     met = unspotted z (c .now) l g e
 
     pub which-none : Met q ≡ askingBy (asked z (c .now) l g)
-    unfolding askingBy pickAsking
+    unfolding askingBy _if_else_
     which-none = rw (lt-ltb 0 (asked z (c .now) l g .number) (omega (arith, numbers (met .0), met .1))) (ap Met (met .0))
 
     pub id-none : {x : RefT (List ℕ)} → PartOf c 0 0 x → IdPart z c l g x
@@ -59,7 +59,7 @@ module _ (z : ℕ) (c : RefT (List ℕ)) (l : List ℕ) (g : ℕ) where
     tree-none {x} p = part-none c x _ _ _ (numbers (met .0)) (met .1) p
 
     pub commit-none : Not q ≡ commitOf z (c .now) l g
-    unfolding commitOf pickAsked
+    unfolding commitOf _if_else_
     commit-none = rw (lt-ltb 0 (asked z (c .now) l g .number) (omega (arith, numbers (met .0), met .1))) (ap Not (met .0))
 
   -- it stands at r
@@ -68,7 +68,7 @@ module _ (z : ℕ) (c : RefT (List ℕ)) (l : List ℕ) (g : ℕ) where
     spot = spotted z (c .now) l g e
 
     pub which-fine : Fine ≡ askingBy (asked z (c .now) l g)
-    unfolding askingBy pickAsking
+    unfolding askingBy _if_else_
     which-fine = rw (le-ltb 0 (asked z (c .now) l g .number) (omega (arith, spot .fine)))
 
     -- s is what was cut by it
@@ -108,7 +108,7 @@ module _ (z : ℕ) (c : RefT (List ℕ)) (l : List ℕ) (g : ℕ) where
           rw (eq-eqb _ 0 (spot .fine), spot .file, spot .pos, spot .opens, spot .start) (inner-part _ _ (cut .place) plain room p)
 
       pub commit-part : {a : Asked} → a ≡ commitAt (s .now) (r .inner) (r .pos .0) → a ≡ commitOf z (c .now) l g
-      unfolding commitOf pickAsked commitIn
+      unfolding commitOf _if_else_ commitIn
       commit-part p =
           p ∙ rw (le-ltb 0 (asked z (c .now) l g .number) (omega (arith, spot .fine)), spot .file, spot .pos, spot .opens, cut .bytes)
 

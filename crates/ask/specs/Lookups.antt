@@ -1,10 +1,11 @@
 -- Lookup in a chain: each file's own lookup in order; the oldest copy counts. 41 for an id that is not 20 bytes.
 use Prim.Native.Nat.{ℕ, zero, suc, _+_}
 use mathlib.Core.List.{List}
-use mathlib.Core.Bool.{Bool, true, false, not}
+use mathlib.Core.Bool.{true, not}
 use mathlib.Core.Path.{_≡_}
 use lib.Dec.{ltb, eqb}
 use lib.ListN.{length}
+use Rattle.words.specs.First.{_if_else_}
 use Rattle.types.specs.Refusals.{refusal}
 use Rattle.list.specs.List.{recordsOf}
 use Rattle.file.specs.declared.Opening.{Opening}
@@ -41,15 +42,11 @@ module _ (z : ℕ) (c l x : List ℕ) where
   lookFrom k zero = Absent
   lookFrom k (suc left) = shift (firstAt z c l k) (findAt k) (lookFrom (k + 1) left)
 
-unfoldable pub pickFound : Bool → Found → Found → Found
-pickFound true a b = a
-pickFound false a b = b
-
 unfoldable pub lookupOf : ℕ → List ℕ → List ℕ → List ℕ → Found
 lookupOf z c l x =
-    pickFound (ltb 0 (opened z c l .number)) (Not (opened z c l))
-    (pickFound (not (eqb (length x) 20)) (Not (refusal 41 0))
-    (lookFrom z c l x 0 (recordsOf z l)))
+    Not (opened z c l) if ltb 0 (opened z c l .number) else
+    Not (refusal 41 0) if not (eqb (length x) 20) else
+    lookFrom z c l x 0 (recordsOf z l)
 
 -- ── what the private pass gives ──
 
@@ -58,16 +55,12 @@ noteFile old sum (FileAt p) = record { seen = true; pos = sum + p .0 }
 noteFile old sum FileAbsent = old
 noteFile old sum (FileRefused r) = old
 
-unfoldable pub pickHit : Bool → Hit → Hit → Hit
-pickHit true a b = a
-pickHit false a b = b
-
 unfoldable pub notedOf : Hit → ℕ → FileFound → Hit
-notedOf old sum y = pickHit (old .seen) old (noteFile old sum y)
+notedOf old sum y = old if old .seen else noteFile old sum y
 
 -- what was seen, else what is still to come
 unfoldable pub hitOr : Hit → Found → Found
-hitOr h rest = pickFound (h .seen) (place (h .pos)) rest
+hitOr h rest = place (h .pos) if h .seen else rest
 
 pub record Looked (z : ℕ) (c l : List ℕ) (n : ℕ) (x : List ℕ) (r : Search) : Type 0 where
   pub refusal : r .refusal ≡ openFrom z c l 0 n

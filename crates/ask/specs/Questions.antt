@@ -1,9 +1,9 @@
 -- Questions on a chain: document 01, "Questions". c is the chain's bytes, l the list's, z the size of a record, g a graph position.
 use Prim.Native.Nat.{ℕ, _+_, _*_}
 use mathlib.Core.List.{List}
-use mathlib.Core.Bool.{Bool, true, false}
 use lib.Dec.{ltb}
 use denote.Ref.{RefT}
+use Rattle.words.specs.First.{_if_else_}
 use Rattle.types.specs.declared.refusal.Refusal.{Refusal}
 use Rattle.fit.specs.Fits.{AskedPart}
 use Rattle.file.specs.declared.Opening.{Opening}
@@ -16,12 +16,8 @@ use Rattle.commit.specs.declared.Asked.the-variants.{Refused as Not}
 use Rattle.graph.specs.Chain.{widthIn, startAt, partAt, openAt, fileOf, posOf, asked}
 
 -- which refusal a question for a part meets
-unfoldable pub pickAsking : Bool → Asking → Asking → Asking
-pickAsking true a b = a
-pickAsking false a b = b
-
 unfoldable pub askingBy : Refusal → Asking
-askingBy r = pickAsking (ltb 0 (r .number)) (Met r) Fine
+askingBy r = Met r if ltb 0 (r .number) else Fine
 
 -- where id i and the tree of commit i lie in an opened file
 unfoldable pub idIn : Opening → ℕ → ℕ
@@ -50,11 +46,7 @@ unfoldable pub commitIn : List ℕ → Opening → ℕ → Asked
 commitIn p (Open f) i = commitAt p f i
 commitIn p (Refused r) i = Not r
 
-unfoldable pub pickAsked : Bool → Asked → Asked → Asked
-pickAsked true a b = a
-pickAsked false a b = b
-
 unfoldable pub commitOf : ℕ → List ℕ → List ℕ → ℕ → Asked
 commitOf z c l g =
-    pickAsked (ltb 0 (asked z c l g .number)) (Not (asked z c l g))
-    (commitIn (partAt z c l (fileOf z c l g)) (openAt z c l (fileOf z c l g)) (posOf z c l g))
+    Not (asked z c l g) if ltb 0 (asked z c l g .number) else
+    commitIn (partAt z c l (fileOf z c l g)) (openAt z c l (fileOf z c l g)) (posOf z c l g)

@@ -1,11 +1,13 @@
 -- Verification file by file: what stands at file i, and the ways on from there.
-use Prim.Native.Nat.{ℕ, zero, suc, _+_, _-_, _≤_, _<_}
+use Prim.Native.Nat.{ℕ, suc, _+_, _-_, _≤_, _<_}
 use mathlib.Core.List.{List}
 use mathlib.Core.Path.{_≡_, refl, sym, ap, _∙_}
 use native.Mathlib.Omega.{arith}
 use native.Mathlib.Nat.{sub-zero}
 use lib.ListN.{getD, replicate}
 use borrow.Author.Tests.{lt-ltb, le-ltb}
+use Rattle.words.proofs.Rows.{refuse-some, refuse-none}
+use Rattle.words.specs.First.{_if_else_, refuse}
 use Rattle.types.specs.declared.refusal.Refusal.{Refusal}
 use Rattle.words.specs.Sums.{before}
 use Rattle.words.proofs.Adds.{before-next}
@@ -17,21 +19,11 @@ use Rattle.file.specs.declared.Opening.the-variants.{Open, Refused as Shut}
 use Rattle.graph.specs.Chain.{openAt, firstAt, opened}
 use Rattle.graph.proofs.Views.{numbers}
 use Rattle.audit.specs.Files.{genAt, keyAt}
-use Rattle.audit.specs.Rules.{headRule, headPlace, badCommit, commitRules, refuse, refusedBy, acceptedBy, accepted, pickVerified, verifyFrom, verification}
+use Rattle.audit.specs.Rules.{headRule, headPlace, badCommit, commitRules, refusedBy, acceptedBy, accepted, verifyFrom, verification, notSound}
 use Rattle.audit.specs.Scans.{Tabled, JudgedAs, ScannedAs}
 use Rattle.audit.specs.declared.Verification.{Verification}
 use Rattle.audit.specs.declared.heads.Judged.{Judged}
 use Rattle.audit.specs.declared.commits.Scanned.{Scanned}
-
-pub refuse-none : {n : ℕ} (i place : ℕ) (rest : Verification) → n ≡ 0 → refuse n i place rest ≡ rest
-unfolding refuse
-refuse-none i place rest e = rw e
-
-refuse-some : (n i place : ℕ) (rest : Verification) → 0 < n
-    → refusedBy (record { number = n; file = i; place = place }) ≡ refuse n i place rest
-unfolding refuse
-refuse-some zero i place rest h = absurd (omega arith)
-refuse-some (suc n) i place rest h = refl
 
 module _ (z : ℕ) (c l : List ℕ) where
   -- the tables say how long each file is
@@ -72,32 +64,32 @@ module _ (z : ℕ) (c l : List ℕ) where
       module _ (g : i < n) {j : Judged} (d : JudgedAs z c l i j) where
         -- file i, then the others
         ahead : verifyFrom z c l (n - from) from
-            ≡ refuse (headRule z c l i) i (headPlace z c l i)
-            (refuse (commitRules z c l i) i (badCommit z c l i) (verifyFrom z c l (n - (i + 1)) (i + 1)))
+            ≡ refuse (headRule z c l i) (notSound i (headPlace z c l i))
+            (refuse (commitRules z c l i) (notSound i (badCommit z c l i)) (verifyFrom z c l (n - (i + 1)) (i + 1)))
         unfolding verifyFrom
         ahead = let y : n - i ≡ suc (n - (i + 1)) = omega arith in p .rest ∙ ap (λ (x : ℕ). verifyFrom z c l x i) y
 
         pub filing-head : 0 < j .number
             → refusedBy (record { number = j .number; file = i; place = j .place }) ≡ verifyFrom z c l (n - from) from
         filing-head y =
-            rw (d .number, d .place) (refuse-some (headRule z c l i) i (headPlace z c l i) _ (omega (arith, d .number)) ∙ sym ahead)
+            rw (d .number, d .place) (refuse-some (headRule z c l i) (notSound i (headPlace z c l i)) _ (omega (arith, d .number)) ∙ sym ahead)
 
         module _ (y : j .number ≤ 0) {r : Scanned} (s : ScannedAs z c l i r) where
           past : verifyFrom z c l (n - from) from
-              ≡ refuse (commitRules z c l i) i (badCommit z c l i) (verifyFrom z c l (n - (i + 1)) (i + 1))
-          past = ahead ∙ refuse-none _ _ _ (omega (arith, d .number))
+              ≡ refuse (commitRules z c l i) (notSound i (badCommit z c l i)) (verifyFrom z c l (n - (i + 1)) (i + 1))
+          past = ahead ∙ refuse-none _ _ (omega (arith, d .number))
 
           pub filing-commit : 0 < r .number
               → refusedBy (record { number = r .number; file = i; place = r .place }) ≡ verifyFrom z c l (n - from) from
           filing-commit x =
-              rw (s .number, s .place) (refuse-some (commitRules z c l i) i (badCommit z c l i) _ (omega (arith, s .number)) ∙ sym past)
+              rw (s .number, s .place) (refuse-some (commitRules z c l i) (notSound i (badCommit z c l i)) _ (omega (arith, s .number)) ∙ sym past)
 
           pub filing-next : r .number ≤ 0 → Filing n from (i + 1) (r .counts) (r .highest)
           filing-next x =
               let q : r .number ≡ 0 = omega arith in
               record {
                 few = omega arith;
-                rest = past ∙ refuse-none _ _ _ (omega (arith, s .number));
+                rest = past ∙ refuse-none _ _ (omega (arith, s .number));
                 counts = s .counts q;
                 highest = s .highest q;
               }
@@ -110,11 +102,11 @@ module _ (z : ℕ) (c l : List ℕ) where
   -- the ways through a verification: q is what opening said
   module _ {q : Refusal} (e : q ≡ opened z c l) where
     pub verify-refused : 0 < q .number → refusedBy q ≡ verification z c l
-    unfolding verification pickVerified
+    unfolding verification _if_else_
     verify-refused h = rw (lt-ltb 0 (opened z c l .number) (omega (arith, numbers e))) (ap refusedBy e)
 
     pub verify-files : q .number ≤ 0 → {v : Verification} → v ≡ verifyFrom z c l (recordsOf z l - 0) 0 → v ≡ verification z c l
-    unfolding verification pickVerified
+    unfolding verification _if_else_
     verify-files h d =
         rw (le-ltb 0 (opened z c l .number) (omega (arith, numbers e)))
         (d ∙ ap (λ (x : ℕ). verifyFrom z c l x 0) (sub-zero (recordsOf z l)))

@@ -10,7 +10,7 @@ use Rattle.words.specs.First.{_if_else_}
 use Rattle.ancestry.specs.Graph.{highestIn}
 use Rattle.steps.specs.Walks.{Walked, ends, parent, positions}
 use Rattle.audit.specs.Rules.{walkRule}
-use Rattle.audit.specs.Scans.{pickMet, metOf}
+use Rattle.audit.specs.Scans.{metOf}
 use Rattle.audit.specs.declared.meets.Met.{Met}
 
 module _ (limit : ℕ) (gen : ℕ → ℕ) where
@@ -22,31 +22,31 @@ module _ (limit : ℕ) (gen : ℕ → ℕ) where
 
     module _ (p : ℕ) (rest : Walked) (e : w ≡ parent p rest) where
       pub met-out : limit ≤ p → _≡_ {A = Met} (record { number = 68; parents = n; highest = h }) (metOf limit gen w n h)
-      unfolding metOf pickMet
+      unfolding metOf _if_else_
       met-out l = rw (e, le-leb limit p l)
 
       pub met-in : {top : ℕ} → p < limit → top ≡ max h (gen p) → metOf limit gen rest (n + 1) top ≡ metOf limit gen w n h
-      unfolding metOf pickMet
+      unfolding metOf _if_else_
       met-in l q = rw (e, lt-leb limit p l, q)
 
   -- one parent met: what is known of the rest
   number-by : (b : Bool) {r : ℕ} (n h : ℕ) (m : Met) → m .number ≡ r
-      → pickMet b (record { number = 68; parents = n; highest = h }) m .number ≡ (68 if b else r)
-  unfolding pickMet _if_else_
+      → (record { number = 68; parents = n; highest = h } if b else m) .number ≡ (68 if b else r)
+  unfolding _if_else_
   number-by true n h m e = refl
   number-by false n h m e = e
 
   parents-by : (b : Bool) (n h k : ℕ) (m : Met) → (m .number ≡ 0 → m .parents ≡ k)
-      → pickMet b (record { number = 68; parents = n; highest = h }) m .number ≡ 0
-      → pickMet b (record { number = 68; parents = n; highest = h }) m .parents ≡ k
-  unfolding pickMet
+      → (record { number = 68; parents = n; highest = h } if b else m) .number ≡ 0
+      → (record { number = 68; parents = n; highest = h } if b else m) .parents ≡ k
+  unfolding _if_else_
   parents-by true n h k m f e = absurd (omega arith)
   parents-by false n h k m f e = f e
 
   highest-by : (b : Bool) (n h k : ℕ) (m : Met) → (m .number ≡ 0 → m .highest ≡ k)
-      → pickMet b (record { number = 68; parents = n; highest = h }) m .number ≡ 0
-      → pickMet b (record { number = 68; parents = n; highest = h }) m .highest ≡ k
-  unfolding pickMet
+      → (record { number = 68; parents = n; highest = h } if b else m) .number ≡ 0
+      → (record { number = 68; parents = n; highest = h } if b else m) .highest ≡ k
+  unfolding _if_else_
   highest-by true n h k m f e = absurd (omega arith)
   highest-by false n h k m f e = f e
 

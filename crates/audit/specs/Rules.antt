@@ -1,12 +1,12 @@
 -- Chain verification: document 01, "Chain verification", refusals 60 to 69, in the paper's order. 0 is no refusal.
 use Prim.Native.Nat.{ℕ, zero, suc, _+_}
 use mathlib.Core.List.{List}
-use mathlib.Core.Bool.{Bool, true, false, not}
+use mathlib.Core.Bool.{Bool, not}
 use mathlib.Core.Option.{Option, none, some}
 use lib.ListN.{length, replicate}
 use lib.Dec.{ltb, leb, eqb}
 use Rattle.types.specs.declared.refusal.Refusal.{Refusal}
-use Rattle.words.specs.First.{_if_else_, first}
+use Rattle.words.specs.First.{_if_else_, first, refuse}
 use Rattle.ancestry.specs.Graph.{rightGen, highestBelow, lengthOf}
 use Rattle.ancestry.specs.Counts.{countsOf}
 use Rattle.list.specs.List.{recordsOf}
@@ -88,13 +88,8 @@ module _ (z : ℕ) (c l : List ℕ) where
 abbrev pub refusedBy : Refusal → Verification
 refusedBy r = record { verdict = Refused r; counts = replicate 66 0 }
 
-unfoldable pub refuse : ℕ → ℕ → ℕ → Verification → Verification
-refuse zero i place rest = rest
-refuse (suc n) i place rest = refusedBy (record { number = suc n; file = i; place = place })
-
-unfoldable pub pickVerified : Bool → Verification → Verification → Verification
-pickVerified true a b = a
-pickVerified false a b = b
+abbrev pub notSound : ℕ → ℕ → ℕ → Verification
+notSound i place n = refusedBy (record { number = n; file = i; place = place })
 
 -- n commits with the highest generation h and these counts
 abbrev pub acceptedBy : ℕ → ℕ → List ℕ → Verification
@@ -108,10 +103,10 @@ module _ (z : ℕ) (c l : List ℕ) where
   unfoldable pub verifyFrom : ℕ → ℕ → Verification
   verifyFrom zero i = accepted
   verifyFrom (suc left) i =
-      refuse (headRule z c l i) i (headPlace z c l i)
-      (refuse (commitRules z c l i) i (badCommit z c l i)
+      refuse (headRule z c l i) (notSound i (headPlace z c l i))
+      (refuse (commitRules z c l i) (notSound i (badCommit z c l i))
       (verifyFrom left (i + 1)))
 
   -- the opening, then each file
   unfoldable pub verification : Verification
-  verification = pickVerified (ltb 0 (opened z c l .number)) (refusedBy (opened z c l)) (verifyFrom (recordsOf z l) 0)
+  verification = refusedBy (opened z c l) if ltb 0 (opened z c l .number) else verifyFrom (recordsOf z l) 0

@@ -2,9 +2,10 @@
 use Prim.Native.Nat.{ℕ, _+_, _≤_, _<_, max}
 use mathlib.Core.Path.{_≡_}
 use mathlib.Core.List.{List}
-use mathlib.Core.Bool.{Bool, true, false, not}
+use mathlib.Core.Bool.{Bool, not}
 use lib.ListN.{length, getD}
 use lib.Dec.{leb}
+use Rattle.words.specs.First.{_if_else_}
 use Rattle.ancestry.specs.Graph.{highestBelow}
 use Rattle.ancestry.specs.Counts.{countsOf}
 use Rattle.chunk.specs.Index.{absent}
@@ -52,14 +53,11 @@ module _ (z : ℕ) (c l : List ℕ) where
     pub tables : r .refusal .number ≡ 0 → Tabled (r .starts) (r .firsts) (r .rows)
 
 -- what is left of a walk is met, after n parents whose highest generation is h; `limit` is one past the highest position allowed
-unfoldable pub pickMet : Bool → Met → Met → Met
-pickMet true a b = a
-pickMet false a b = b
-
 unfoldable pub metOf : ℕ → (ℕ → ℕ) → Walked → ℕ → ℕ → Met
 metOf limit gen (ends r) n h = record { number = r; parents = n; highest = h }
 metOf limit gen (parent p w) n h =
-    pickMet (leb limit p) (record { number = 68; parents = n; highest = h }) (metOf limit gen w (n + 1) (max h (gen p)))
+    record { number = 68; parents = n; highest = h } if leb limit p else
+    metOf limit gen w (n + 1) (max h (gen p))
 
 -- the chunks of file i, each as its own part
 pub record Cut (z : ℕ) (c l : List ℕ) (i w n : ℕ) (x y v e : List ℕ) (t : Bool) : Type 0 where

@@ -1,17 +1,17 @@
 -- What the tests of the index say of numbers that were read.
-use Prim.Native.Nat.{ℕ, zero, suc, _+_, _<_, _≤_}
+use Prim.Native.Nat.{ℕ, _<_, _≤_}
 use mathlib.Core.List.{List}
 use mathlib.Core.Bool.{true, false}
-use mathlib.Core.Path.{_≡_, refl, sym, ap, _∙_}
+use mathlib.Core.Path.{_≡_, sym, ap, _∙_}
 use native.Mathlib.Omega.{arith}
 use borrow.Author.Tests.{lt-ltb, le-ltb, le-leb, lt-leb, eq-eqb, ne-eqb}
+use Rattle.words.proofs.Rows.{refuse-some}
 use Rattle.types.specs.Refusals.{refusal}
 use Rattle.types.specs.declared.refusal.Refusal.{Refusal}
-use Rattle.words.specs.First.{first}
+use Rattle.words.specs.First.{_if_else_, first, refuse}
 use Rattle.words.proofs.Searches.{first-begins, first-stop, first-step, first-ends}
-use Rattle.chunk.specs.Index.{chunks, idAt, offAt, isAt, seen, entryRule, bad, chunkAt, pick, chunkOf, indexRule, indexPlace, entryOf, pickEntry, refuseEntry, nthOf}
+use Rattle.chunk.specs.Index.{chunks, idAt, isAt, seen, entryRule, bad, chunkAt, chunkOf, indexRule, indexPlace, entryOf, nthOf, notListed}
 use Rattle.chunk.specs.declared.Chunk.the-variants.{Absent}
-use Rattle.chunk.specs.declared.Indexed.{Indexed as Listed}
 use Rattle.chunk.specs.declared.Indexed.the-variants.{Entry as Is, Past, Refused}
 
 pub isAt-yes : (l : List ℕ) (x i r : ℕ) → r ≡ idAt l i → r ≡ x → isAt l x i ≡ true
@@ -46,35 +46,30 @@ module _ (l : List ℕ) (x : ℕ) {c e : ℕ} (p : c ≡ chunks l) (q : e ≡ fi
   stopped = ap (first (isAt l x) 0) (sym p) ∙ sym q
 
   pub chunk-absent : c ≤ e → Absent ≡ chunkOf l x
-  unfolding chunkOf pick
+  unfolding chunkOf _if_else_
   chunk-absent h = let g : chunks l ≤ e = omega arith in rw (stopped, le-leb (chunks l) e g)
 
   pub chunk-at : e < c → chunkAt l e ≡ chunkOf l x
-  unfolding chunkOf pick
+  unfolding chunkOf _if_else_
   chunk-at h = let g : e < chunks l = omega arith in rw (stopped, lt-leb (chunks l) e g)
 
 -- the ways through an entry by its number: r is what the index's own table said
-refuse-some : (n p : ℕ) (rest : Listed) → 0 < n → Refused (refusal n p) ≡ refuseEntry n p rest
-unfolding refuseEntry
-refuse-some zero p rest h = absurd (omega arith)
-refuse-some (suc n) p rest h = refl
-
 module _ (l : List ℕ) (k : ℕ) {r : Refusal} (e : r ≡ refusal (indexRule l) (indexPlace l)) where
   told : r .number ≡ indexRule l
   told = ap (λ (x : Refusal). x .number) e
 
   pub nth-refused : 0 < r .number → Refused r ≡ nthOf l k
   unfolding nthOf
-  nth-refused h = ap Refused e ∙ refuse-some (indexRule l) (indexPlace l) _ (omega (arith, told))
+  nth-refused h = ap Refused e ∙ refuse-some (indexRule l) (notListed (indexPlace l)) _ (omega (arith, told))
 
   module _ (h : r .number ≤ 0) {c : ℕ} (p : c ≡ chunks l) where
     fine : indexRule l ≡ 0
     fine = omega (arith, told)
 
     pub nth-past : c ≤ k → Past ≡ nthOf l k
-    unfolding nthOf refuseEntry pickEntry
+    unfolding nthOf refuse _if_else_
     nth-past g = let d : chunks l ≤ k = omega arith in rw (fine, le-leb (chunks l) k d)
 
     pub nth-at : k < c → Is (entryOf l k) ≡ nthOf l k
-    unfolding nthOf refuseEntry pickEntry
+    unfolding nthOf refuse _if_else_
     nth-at g = let d : k < chunks l = omega arith in rw (fine, lt-leb (chunks l) k d)

@@ -1,5 +1,5 @@
 -- How each way through the index's table answers, and what a sound index gives.
-use Prim.Native.Nat.{ℕ, _+_, _-_, _*_, _<_, _≤_}
+use Prim.Native.Nat.{ℕ, _+_, _*_, _<_, _≤_}
 use mathlib.Core.List.{List}
 use mathlib.Core.Bool.{Bool, true, false}
 use mathlib.Core.Path.{_≡_, refl, sym, ap, ap₂, _∙_}
@@ -9,11 +9,11 @@ use lib.Dec.{ltb, leb, lit<}
 use lib.ListN.{length}
 use borrow.Author.Tests.{lt-ltb, le-ltb, ltb-true, ltb-false, leb-false}
 use Rattle.types.specs.Refusals.{refusal}
-use Rattle.words.specs.First.{first}
+use Rattle.words.specs.First.{_if_else_, first}
 use Rattle.words.proofs.Numbers.{le-or-lt}
 use Rattle.words.proofs.Searches.{first-none, first-hit}
 use Rattle.words.proofs.Rows.{hit, miss, pass, eq-via, ne-via}
-use Rattle.chunk.specs.Index.{chunks, idAt, offAt, isAt, rangeRule, entryRule, bad, badEntry, indexRule, indexPlace, chunkAt, pick, chunkOf, startOf, Indexed, Lies}
+use Rattle.chunk.specs.Index.{chunks, idAt, offAt, isAt, rangeRule, entryRule, bad, badEntry, indexRule, indexPlace, chunkAt, chunkOf, Indexed, Lies}
 use Rattle.chunk.specs.declared.Chunk.the-variants.{Absent}
 
 -- the ways through the table: c is the count, and e the first entry that is refused
@@ -108,11 +108,11 @@ indexed l e =
 
 -- where a chunk of a sound index lies
 pub lies : {l : List ℕ} (x : ℕ) → Indexed l → Lies (length l) (20 + 12 * chunks l) (chunkOf l x)
-unfolding chunkOf pick chunkAt
+unfolding chunkOf _if_else_ chunkAt
 lies {l} x h = go _ refl
   where
     go : (t : Bool) → leb (chunks l) (first (isAt l x) 0 (chunks l)) ≡ t
-        → Lies (length l) (20 + 12 * chunks l) (pick t Absent (chunkAt l (first (isAt l x) 0 (chunks l))))
+        → Lies (length l) (20 + 12 * chunks l) (Absent if t else chunkAt l (first (isAt l x) 0 (chunks l)))
     go true e = record { above = λ z. (let y : _≡_ {A = ℕ} 0 1 = cc in absurd (omega arith)); inside = omega arith }
     go false e =
         let i : ℕ = first (isAt l x) 0 (chunks l) in

@@ -1,12 +1,12 @@
 -- The chunk index: gitformat-chunk, and gitformat-commit-graph's "Chunk LOOKUP". A table's rows stand in document 01's order; 0 is no refusal.
-use Prim.Native.Nat.{ℕ, zero, suc, _+_, _-_, _*_, _≤_, _<_}
+use Prim.Native.Nat.{ℕ, _+_, _-_, _*_, _≤_, _<_}
 use mathlib.Core.List.{List}
 use mathlib.Core.Bool.{Bool, true, false, not}
 use mathlib.Core.Path.{_≡_}
 use lib.ListN.{length, getD}
 use lib.Dec.{ltb, leb, eqb}
 use Rattle.words.specs.Big.{be}
-use Rattle.words.specs.First.{_if_else_, first}
+use Rattle.words.specs.First.{_if_else_, first, refuse}
 use Rattle.types.specs.Refusals.{refusal}
 use Rattle.chunk.specs.declared.Chunk.{Chunk}
 use Rattle.chunk.specs.declared.Chunk.the-variants.{At, Absent}
@@ -72,12 +72,10 @@ indexPlace l =
 unfoldable pub chunkAt : List ℕ → ℕ → Chunk
 chunkAt l e = At (record { start = offAt l e; end = offAt l (e + 1) })
 
-unfoldable pub pick : Bool → Chunk → Chunk → Chunk
-pick true a b = a
-pick false a b = b
-
 unfoldable pub chunkOf : List ℕ → ℕ → Chunk
-chunkOf l x = pick (leb (chunks l) (first (isAt l x) 0 (chunks l))) Absent (chunkAt l (first (isAt l x) 0 (chunks l)))
+chunkOf l x =
+    Absent if leb (chunks l) (first (isAt l x) 0 (chunks l)) else
+    chunkAt l (first (isAt l x) 0 (chunks l))
 
 -- what a chunk is
 abbrev pub absent : Chunk → Bool
@@ -96,16 +94,11 @@ sizeOf Absent = 0
 unfoldable pub entryOf : List ℕ → ℕ → Entry
 entryOf l k = record { id = idAt l k; span = record { start = offAt l k; end = offAt l (k + 1) } }
 
-unfoldable pub pickEntry : Bool → Listed → Listed → Listed
-pickEntry true a b = a
-pickEntry false a b = b
-
-unfoldable pub refuseEntry : ℕ → ℕ → Listed → Listed
-refuseEntry zero place rest = rest
-refuseEntry (suc n) place rest = Refused (refusal (suc n) place)
+abbrev pub notListed : ℕ → ℕ → Listed
+notListed place n = Refused (refusal n place)
 
 unfoldable pub nthOf : List ℕ → ℕ → Listed
-nthOf l k = refuseEntry (indexRule l) (indexPlace l) (pickEntry (leb (chunks l) k) Past (Is (entryOf l k)))
+nthOf l k = refuse (indexRule l) (notListed (indexPlace l)) (Past if leb (chunks l) k else Is (entryOf l k))
 
 -- what a sound index gives: each chunk lies between the index and the file's end, and the last of them where the trailer begins
 pub record Indexed (l : List ℕ) : Type 0 where

@@ -1,17 +1,18 @@
 -- The ways through a parent word and a row of CDAT.
 use Prim.Native.Nat.{ℕ, zero, suc, _+_, _-_, _*_, _≤_, _<_}
 use mathlib.Core.List.{List}
-use mathlib.Core.Path.{_≡_, refl, sym, _∙_}
+use mathlib.Core.Path.{_≡_, sym, _∙_}
 use native.Mathlib.Omega.{arith}
 use lib.Dec.{lit<}
 use lib.ListN.{length}
 use borrow.Author.Tests.{le-leb, lt-leb, ltb-false, eq-eqb, ne-eqb, eqb-true, not-false}
+use Rattle.words.specs.First.{_if_else_, refuse}
 use Rattle.types.specs.Refusals.{refusal}
 use Rattle.types.specs.declared.refusal.Refusal.{Refusal}
 use Rattle.words.proofs.Parts.{length-part}
-use Rattle.words.proofs.Rows.{pass}
+use Rattle.words.proofs.Rows.{pass, refuse-some, refuse-none, refuse-other}
 use Rattle.fit.specs.Fits.{askRule, rowsPart, Fitted}
-use Rattle.commit.specs.Commits.{pickEdge, edgeOf, commitOf, rowRule, refuseCommit, commitIn, rowOf, commitAt}
+use Rattle.commit.specs.Commits.{edgeOf, commitOf, rowRule, commitIn, rowOf, commitAt, notCommit}
 use Rattle.file.specs.declared.File.{File}
 use Rattle.commit.specs.declared.Commit.{Commit}
 use Rattle.commit.specs.declared.Asked.{Asked}
@@ -21,15 +22,15 @@ use Rattle.fit.proofs.Fitting.{Answered, answered, run-within}
 
 module _ (x : ℕ) where
   pub edge-none : x ≡ 0x70000000 → None ≡ edgeOf x
-  unfolding edgeOf pickEdge
+  unfolding edgeOf _if_else_
   edge-none e = rw (eq-eqb x 0x70000000 e)
 
   pub edge-index : 0x80000000 ≤ x → ExtraEdgeIndex (x - 0x80000000) ≡ edgeOf x
-  unfolding edgeOf pickEdge
+  unfolding edgeOf _if_else_
   edge-index h = rw (ne-eqb x 0x70000000 (λ z. omega arith), le-leb 0x80000000 x h)
 
   pub edge-position : (x ≡ 0x70000000 → ⊥) → x < 0x80000000 → GraphPosition (record { 0 = x }) ≡ edgeOf x
-  unfolding edgeOf pickEdge
+  unfolding edgeOf _if_else_
   edge-position n h = rw (ne-eqb x 0x70000000 n, lt-leb 0x80000000 x h)
 
 -- a row that is there
@@ -40,42 +41,31 @@ row-there w n i e =
     let p2 = pass 40 _ _ (lit< tt) (p1 .1) in
     (eqb-true _ _ (not-false _ (p1 .0)), ltb-false n _ (p2 .0))
 
-refuse-some : (n : ℕ) (rest : Asked) → 0 < n → Refused (refusal n 0) ≡ refuseCommit n rest
-unfolding refuseCommit
-refuse-some zero rest h = absurd (omega arith)
-refuse-some (suc n) rest h = refl
-
-refuse-none : {n : ℕ} (rest : Asked) → n ≡ 0 → refuseCommit n rest ≡ rest
-unfolding refuseCommit
-refuse-none rest e = rw e
-
 -- the ways through a row, and through a commit of a file: m is what the rule said
 module _ (w : ℕ) (p : List ℕ) (i : ℕ) {m : ℕ} (e : m ≡ rowRule w (length p) i) where
   pub commit-out : 0 < m → Refused (refusal m 0) ≡ commitIn w p i
   unfolding commitIn
-  commit-out h = rw (← e) (refuse-some m _ h)
+  commit-out h = rw (← e) (refuse-some m notCommit _ h)
 
   pub commit-in : m ≤ 0 → Is (commitOf p (i * (w + 16) + w)) ≡ commitIn w p i
   unfolding commitIn
-  commit-in h = sym (refuse-none _ (omega arith))
+  commit-in h = sym (refuse-none notCommit _ (omega arith))
 
 pub commit-misfit : (l : List ℕ) (f : File) (i : ℕ) {m : ℕ} → m ≡ askRule l f (f .commits) i → 0 < m
     → Refused (refusal m 0) ≡ commitAt l f i
 unfolding commitAt
-commit-misfit l f i {m} e h = rw (← e) (refuse-some m _ h)
+commit-misfit l f i {m} e h = rw (← e) (refuse-some m notCommit _ h)
 
 pub commit-plain : {l : List ℕ} {f : File} {i : ℕ} → Answered l f (f .commits) i → Is (rowOf l f i) ≡ commitAt l f i
 unfolding commitAt
-commit-plain k = sym (refuse-none _ (k .rule))
+commit-plain k = sym (refuse-none notCommit _ (k .rule))
 
 -- what an answer says of its question: x is the answer for commit i of a file
-refuse-given : (n : ℕ) (rest : Asked) {c : Commit} → refuseCommit n rest ≡ Is c → (n ≡ 0) × (rest ≡ Is c)
-unfolding refuseCommit
-refuse-given zero rest e = (refl, e)
-refuse-given (suc n) rest e = let z : _≡_ {A = ℕ} 0 1 = cc in absurd (omega arith)
+refuse-given : (n : ℕ) (rest : Asked) {c : Commit} → refuse n notCommit rest ≡ Is c → (n ≡ 0) × (rest ≡ Is c)
+refuse-given n rest e = refuse-other n notCommit rest (λ m q. let z : _≡_ {A = ℕ} 0 1 = cc in omega arith) e
 
-refuse-barred : (n : ℕ) (d : Commit) {r : Refusal} → refuseCommit n (Is d) ≡ Refused r → (0 < n) × (r ≡ refusal n 0)
-unfolding refuseCommit
+refuse-barred : (n : ℕ) (d : Commit) {r : Refusal} → refuse n notCommit (Is d) ≡ Refused r → (0 < n) × (r ≡ refusal n 0)
+unfolding refuse
 refuse-barred zero d e = let z : _≡_ {A = ℕ} 0 1 = cc in absurd (omega arith)
 refuse-barred (suc n) d e = (omega arith, cc)
 

@@ -1,12 +1,12 @@
 -- Commits: gitformat-commit-graph's "Commit Data" (CDAT).
-use Prim.Native.Nat.{ℕ, zero, suc, _+_, _-_, _*_, _/_, _%_, _^_}
+use Prim.Native.Nat.{ℕ, _+_, _-_, _*_, _/_, _%_, _^_}
 use mathlib.Core.List.{List}
-use mathlib.Core.Bool.{Bool, true, false, not}
+use mathlib.Core.Bool.{not}
 use lib.ListN.{length}
 use lib.Dec.{ltb, leb, eqb}
 use Rattle.types.specs.Refusals.{refusal}
 use Rattle.words.specs.Big.{be}
-use Rattle.words.specs.First.{_if_else_}
+use Rattle.words.specs.First.{_if_else_, refuse}
 use Rattle.fit.specs.Fits.{known, askRule, rowsPart}
 use Rattle.file.specs.declared.File.{File}
 use Rattle.commit.specs.declared.Commit.{Commit}
@@ -16,15 +16,11 @@ use Rattle.commit.specs.declared.ParentEdge.{ParentEdge}
 use Rattle.commit.specs.declared.ParentEdge.the-variants.{None, GraphPosition, ExtraEdgeIndex}
 
 -- a parent word
-unfoldable pub pickEdge : Bool → ParentEdge → ParentEdge → ParentEdge
-pickEdge true a b = a
-pickEdge false a b = b
-
 unfoldable pub edgeOf : ℕ → ParentEdge
 edgeOf x =
-    pickEdge (eqb x 0x70000000) None
-    (pickEdge (leb 0x80000000 x) (ExtraEdgeIndex (x - 0x80000000))
-    (GraphPosition (record { 0 = x })))
+    None if eqb x 0x70000000 else
+    ExtraEdgeIndex (x - 0x80000000) if leb 0x80000000 x else
+    GraphPosition (record { 0 = x })
 
 -- the generation and the time of two date words
 abbrev pub generationOf : ℕ → ℕ
@@ -50,16 +46,15 @@ rowRule w n i =
     40 if ltb n (i * (w + 16) + (w + 16)) else
     0
 
-unfoldable pub refuseCommit : ℕ → Asked → Asked
-refuseCommit zero rest = rest
-refuseCommit (suc n) rest = Refused (refusal (suc n) 0)
+abbrev pub notCommit : ℕ → Asked
+notCommit n = Refused (refusal n 0)
 
 unfoldable pub commitIn : ℕ → List ℕ → ℕ → Asked
-commitIn w p i = refuseCommit (rowRule w (length p) i) (Is (commitOf p (i * (w + 16) + w)))
+commitIn w p i = refuse (rowRule w (length p) i) notCommit (Is (commitOf p (i * (w + 16) + w)))
 
 -- a commit of a file
 abbrev pub rowOf : List ℕ → File → ℕ → Commit
 rowOf l f i = commitOf (rowsPart l f) (i * (f .width + 16) + f .width)
 
 unfoldable pub commitAt : List ℕ → File → ℕ → Asked
-commitAt l f i = refuseCommit (askRule l f (f .commits) i) (Is (rowOf l f i))
+commitAt l f i = refuse (askRule l f (f .commits) i) notCommit (Is (rowOf l f i))

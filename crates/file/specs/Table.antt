@@ -1,12 +1,12 @@
 -- Opening one file: document 01's table of refusals, 1 to 22 (6 to 9 are in crate chunk). Each table has the paper's rows in the paper's
 -- order; 0 is no refusal. The fields are gitformat-commit-graph's: HEADER, OIDF, OIDL, CDAT, EDGE, BASE, TRAILER. w is the width of an id.
-use Prim.Native.Nat.{ℕ, zero, suc, _+_, _-_, _*_, _/_, _%_}
+use Prim.Native.Nat.{ℕ, _+_, _-_, _*_, _/_, _%_}
 use mathlib.Core.List.{List}
 use mathlib.Core.Bool.{Bool, true, not, _&&_}
 use lib.ListN.{length, getD, take, drop}
 use lib.Dec.{ltb, eqb}
 use Rattle.words.specs.Big.{be}
-use Rattle.words.specs.First.{_if_else_, first}
+use Rattle.words.specs.First.{_if_else_, refuse, first}
 use Rattle.types.specs.Refusals.{refusal}
 use Rattle.chunk.specs.Index.{chunks, offAt, chunkOf, absent, startOf, sizeOf, indexRule, indexPlace}
 use Rattle.chunk.specs.declared.Chunk.{Chunk}
@@ -98,28 +98,27 @@ fileOf w b x n =
       base = startOf (x .base);
     }
 
--- a refusal where its number is not 0, else what comes after
-unfoldable pub refuse : ℕ → ℕ → Opening → Opening
-refuse zero place rest = rest
-refuse (suc n) place rest = Refused (refusal (suc n) place)
+-- a refusal at a place
+unfoldable pub notOpen : ℕ → ℕ → Opening
+notOpen place n = Refused (refusal n place)
 
 unfoldable pub fanned : Bool → ℕ → ℕ → Index → List ℕ → Opening
 fanned t w b x p =
-    refuse (20 if ltb (peakBy t p) 255 else 0) (peakBy t p + 1)
-    (refuse (countRules w (last p) x) 0
+    refuse (20 if ltb (peakBy t p) 255 else 0) (notOpen (peakBy t p + 1))
+    (refuse (countRules w (last p) x) (notOpen 0)
     (Open (fileOf w b x (last p))))
 
 unfoldable pub chunked : Bool → ℕ → ℕ → List ℕ → Index → Opening
 chunked t w b l x =
-    refuse (baseRules w b (x .base)) 0
-    (refuse (chunkRules w b (length l - offAt l (chunks l)) x) 0
+    refuse (baseRules w b (x .base)) (notOpen 0)
+    (refuse (chunkRules w b (length l - offAt l (chunks l)) x) (notOpen 0)
     (fanned t w b x (partOf l (x .oidf))))
 
 -- opening with 20 tried or not, and opening
 unfoldable pub openingBy : Bool → List ℕ → Opening
 openingBy t l =
-    refuse (header l) 0
-    (refuse (indexRule l) (indexPlace l)
+    refuse (header l) (notOpen 0)
+    (refuse (indexRule l) (notOpen (indexPlace l))
     (chunked t (width l) (bases l) l (indexOf l)))
 
 abbrev pub opening : List ℕ → Opening

@@ -11,14 +11,14 @@ use lib.ListN.{length, take, drop}
 use Rattle.types.specs.Refusals.{refusal}
 use Rattle.types.specs.declared.refusal.Refusal.{Refusal}
 use Rattle.words.specs.Big.{be}
-use Rattle.words.specs.First.{_if_else_, first}
+use Rattle.words.specs.First.{_if_else_, first, refuse}
 use Rattle.words.proofs.Searches.{first-none}
-use Rattle.words.proofs.Rows.{pass}
+use Rattle.words.proofs.Rows.{pass, refuse-other}
 use Rattle.chunk.specs.Index.{chunks, offAt, absent, startOf, sizeOf, indexRule, Indexed}
 use Rattle.chunk.specs.declared.Chunk.{Chunk}
 use Rattle.chunk.specs.declared.Chunk.the-variants.{At, Absent}
 use Rattle.chunk.proofs.Sound.{indexed, lies}
-use Rattle.file.specs.Table.{bases, width, header, indexOf, partOf, baseRules, chunkRules, countRules, falls, peak, peakBy, last, fileOf, refuse, fanned, chunked, openingBy, opening}
+use Rattle.file.specs.Table.{bases, width, header, indexOf, partOf, baseRules, chunkRules, countRules, falls, peak, peakBy, last, fileOf, notOpen, fanned, chunked, openingBy, opening}
 use Rattle.fit.specs.Facts.{Opened, Rises}
 use Rattle.fit.specs.Fits.{known}
 use Rattle.file.specs.declared.File.{File}
@@ -28,10 +28,9 @@ use Rattle.file.specs.declared.Opening.the-variants.{Open, Refused}
 use Rattle.file.proofs.Stages.{Headed, headed, width-wide}
 
 -- a stage before an opened file refused nothing
-pub opens : (n p : ℕ) (rest : Opening) {f : File} → refuse n p rest ≡ Open f → (n ≡ 0) × (rest ≡ Open f)
-unfolding refuse
-opens zero p rest e = (refl, e)
-opens (suc n) p rest e = let z : _≡_ {A = ℕ} 0 1 = cc in absurd (omega arith)
+pub opens : (n p : ℕ) (rest : Opening) {f : File} → refuse n (notOpen p) rest ≡ Open f → (n ≡ 0) × (rest ≡ Open f)
+unfolding notOpen
+opens n p rest e = refuse-other n (notOpen p) rest (λ m q. let z : _≡_ {A = ℕ} 0 1 = cc in omega arith) e
 
 width-known : (l : List ℕ) → known (width l) ≡ true
 unfolding width
@@ -83,7 +82,7 @@ counted w n x e =
     (eqb-true _ _ (not-false _ (p1 .0)), eqb-true _ _ (not-false _ (p2 .0)))
 
 -- the fan's bytes do not fall, where 20 is tried
-risen : (p : List ℕ) → (20 if ltb (peakBy true p) 255 else 0) ≡ 0 → (i : ℕ) → i < 255 → be 4 p (4 * i) ≤ be 4 p (4 * (i + 1))
+risen : (p : List ℕ) → _≡_ {A = ℕ} (20 if ltb (peakBy true p) 255 else 0) 0 → (i : ℕ) → i < 255 → be 4 p (4 * i) ≤ be 4 p (4 * (i + 1))
 unfolding peakBy _if_else_ peak falls
 risen p e i h =
     let q = pass 20 _ _ (lit< tt) e in
@@ -96,7 +95,7 @@ record Passed (t : Bool) (l : List ℕ) (f : File) : Type 0 where
   index : indexRule l ≡ 0
   base : baseRules (width l) (bases l) (indexOf l .base) ≡ 0
   chunk : chunkRules (width l) (bases l) (length l - offAt l (chunks l)) (indexOf l) ≡ 0
-  fan : (20 if ltb (peakBy t (partOf l (indexOf l .oidf))) 255 else 0) ≡ 0
+  fan : _≡_ {A = ℕ} (20 if ltb (peakBy t (partOf l (indexOf l .oidf))) 255 else 0) 0
   count : countRules (width l) (last (partOf l (indexOf l .oidf))) (indexOf l) ≡ 0
   is : fileOf (width l) (bases l) (indexOf l) (last (partOf l (indexOf l .oidf))) ≡ f
 
@@ -147,8 +146,9 @@ rising l {f} o =
     rw (← k .is) (record { rises = rw (s .oidf) at (risen _ (k .fan)) })
 
 -- a refusal of opening has a number
-refuse-named : (n p : ℕ) (rest : Opening) {r : Refusal} → refuse n p rest ≡ Refused r → (rest ≡ Refused r → 0 < r .number) → 0 < r .number
-unfolding refuse
+refuse-named : (n p : ℕ) (rest : Opening) {r : Refusal} → refuse n (notOpen p) rest ≡ Refused r
+    → (rest ≡ Refused r → 0 < r .number) → 0 < r .number
+unfolding refuse notOpen
 refuse-named zero p rest e h = h e
 refuse-named (suc n) p rest {r} e h =
     let z : refusal (suc n) p ≡ r = cc in let q : suc n ≡ r .number = ap (λ (x : Refusal). x .number) z in omega arith

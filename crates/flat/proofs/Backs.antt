@@ -9,9 +9,9 @@ use lib.Dec.{leb}
 use lib.ListN.{length}
 use borrow.Author.Tests.{le-leb, lt-leb, leb-false}
 use Rattle.words.specs.Big.{Bytes}
-use Rattle.words.specs.First.{first}
+use Rattle.words.specs.First.{_if_else_, first}
 use Rattle.words.proofs.Rows.{hit, miss}
-use Rattle.chunk.specs.Index.{chunks, offAt, isAt, indexRule, chunkAt, pick, chunkOf, startOf, sizeOf, Indexed}
+use Rattle.chunk.specs.Index.{chunks, offAt, isAt, indexRule, chunkAt, chunkOf, startOf, sizeOf, Indexed}
 use Rattle.chunk.specs.declared.Span.{Span}
 use Rattle.chunk.specs.declared.Chunk.{Chunk}
 use Rattle.chunk.specs.declared.Chunk.the-variants.{At, Absent}
@@ -32,8 +32,8 @@ use Rattle.walk.specs.declared.Walk.{Walk}
 use Rattle.walk.proofs.Following.{keeps}
 use Rattle.flat.specs.declared.Opened.{Opened as Handed}
 use Rattle.flat.specs.declared.Step.{Step}
-use Rattle.flat.specs.Images.{phaseKind, phaseEdge, phaseOf, pickPhase, flatStep, flatStepped, walkOf, flatWalked}
-use Rattle.flat.specs.Records.{endOf, pickChunk, edgeOf, fileOf, presentIn, recordOf, flatOpened, Returns}
+use Rattle.flat.specs.Images.{phaseKind, phaseEdge, phaseOf, flatStep, flatStepped, walkOf, flatWalked}
+use Rattle.flat.specs.Records.{endOf, edgeOf, fileOf, presentIn, recordOf, flatOpened, Returns}
 
 -- ── a record ──
 
@@ -52,7 +52,7 @@ Level : Chunk → Type 0
 Level c = (p : Span) → c ≡ At p → (p .start ≤ p .end) × (p .end < 2 ^ 64)
 
 edge-back : (c : Chunk) → Level c → edgeOf (presentIn c) (startOf c) (sizeOf c) ≡ c
-unfolding edgeOf pickChunk Level
+unfolding edgeOf _if_else_ Level
 edge-back Absent h = refl
 edge-back (At p) h =
     let k = h p refl in
@@ -61,11 +61,11 @@ edge-back (At p) h =
 
 -- the chunks of a sound index do
 level : {l : List ℕ} (x : ℕ) → Indexed l → length l ≤ 1073741824 → Level (chunkOf l x)
-unfolding chunkOf pick chunkAt Level
+unfolding chunkOf _if_else_ chunkAt Level
 level {l} x i m = go _ refl
   where
     go : (t : Bool) → leb (chunks l) (first (isAt l x) 0 (chunks l)) ≡ t
-        → Level (pick t Absent (chunkAt l (first (isAt l x) 0 (chunks l))))
+        → Level (Absent if t else chunkAt l (first (isAt l x) 0 (chunks l)))
     go true d p e = let z : _≡_ {A = ℕ} 0 1 = cc in absurd (omega arith)
     go false d p e =
         let k : ℕ = first (isAt l x) 0 (chunks l) in
@@ -117,7 +117,7 @@ opened l b e = (e, λ f o. ap (λ (x : Handed). fileOf (x .«record»)) (e ∙ a
 -- ── a phase ──
 
 pub phase-back : (s : Phase) → phaseOf (phaseKind s) (phaseEdge s) ≡ s
-unfolding phaseOf pickPhase
+unfolding phaseOf _if_else_
 phase-back First = refl
 phase-back Second = refl
 phase-back (Edge k) = refl

@@ -2,8 +2,8 @@
 -- step's phase; where there is none these three are 0.
 use Prim.Native.Nat.{ℕ, _-_}
 use mathlib.Core.List.{List}
-use mathlib.Core.Bool.{Bool, true, false}
 use lib.Dec.{eqb}
+use Rattle.words.specs.First.{_if_else_}
 use Rattle.name.specs.declared.Name.{Name as Named}
 use Rattle.access.specs.declared.Asking.{Asking}
 use Rattle.access.specs.declared.Asking.the-variants.{Fine, Refused as Met}
@@ -167,12 +167,12 @@ phaseEdge (Edge k) = k
 phaseEdge Exhausted = 0
 
 -- and back: any other number is exhausted
-unfoldable pub pickPhase : Bool → Phase → Phase → Phase
-pickPhase true a b = a
-pickPhase false a b = b
-
 unfoldable pub phaseOf : ℕ → ℕ → Phase
-phaseOf n edge = pickPhase (eqb n 0) First (pickPhase (eqb n 1) Second (pickPhase (eqb n 2) (Edge edge) Exhausted))
+phaseOf n edge =
+    First if eqb n 0 else
+    Second if eqb n 1 else
+    Edge edge if eqb n 2 else
+    Exhausted
 
 -- a step's answer and the phase after it
 unfoldable pub flatStep : Answer → Phase → Step

@@ -1,7 +1,6 @@
 -- What an opened file says of itself, as numbers, and back: a record that was made by opening comes back as the same file.
 use Prim.Native.Nat.{ℕ, _+_, _-_, _%_, _^_}
 use mathlib.Core.List.{List}
-use mathlib.Core.Bool.{Bool, true, false}
 use mathlib.Core.Path.{_≡_}
 use lib.Dec.{eqb, leb}
 use Rattle.words.specs.First.{_if_else_}
@@ -61,12 +60,8 @@ flatOpened (Refused r) = record { «record» = noRecord; place = r .place; numbe
 unfoldable pub endOf : ℕ → ℕ → ℕ
 endOf start size = start + size if leb (start + size) (2 ^ 64 - 1) else 2 ^ 64 - 1
 
-unfoldable pub pickChunk : Bool → Chunk → Chunk → Chunk
-pickChunk true a b = a
-pickChunk false a b = b
-
 unfoldable pub edgeOf : ℕ → ℕ → ℕ → Chunk
-edgeOf there start size = pickChunk (eqb there 0) Absent (At (record { start = start; end = endOf start size }))
+edgeOf there start size = Absent if eqb there 0 else At (record { start = start; end = endOf start size })
 
 unfoldable pub fileOf : Record → File
 fileOf r =

@@ -9,6 +9,7 @@ use native.Mathlib.Nat.{sub-zero}
 use lib.ListN.{length}
 use denote.Ref.{RefT}
 use borrow.Author.Tests.{lt-ltb, le-ltb, le-leb, lt-leb, eqb-true}
+use Rattle.words.specs.First.{_if_else_}
 use Rattle.types.specs.Refusals.{refusal}
 use Rattle.types.specs.declared.refusal.Refusal.{Refusal}
 use Rattle.words.specs.Part.{RecordsOf}
@@ -24,24 +25,24 @@ use Rattle.file.specs.declared.Opening.{Opening}
 use Rattle.file.specs.declared.Opening.the-variants.{Open, Refused}
 use Rattle.fit.proofs.Opens.{opened, refused-named}
 use Rattle.graph.specs.Chain.{placed, commitsOf, startAt, partAt, openAt, countAt, openOr, openFrom, Listed}
-use Rattle.graph.specs.Passes.{pickMark, keptOf, Holds, Kept, Surveyed}
+use Rattle.graph.specs.Passes.{keptOf, Holds, Kept, Surveyed}
 use Rattle.graph.specs.declared.locate.Spot.{Spot}
 use Rattle.graph.specs.declared.survey.Mark.{Mark}
 
 -- the ways through what is kept
 module _ (old : Mark) (g sum next k at n : ℕ) (f : File) where
   pub kept-before : g < sum → old ≡ keptOf old g sum next k at n f
-  unfolding keptOf pickMark
+  unfolding keptOf _if_else_
   kept-before h = rw (lt-ltb g sum h)
 
   pub kept-after : sum ≤ g → next ≤ g → old ≡ keptOf old g sum next k at n f
-  unfolding keptOf pickMark
+  unfolding keptOf _if_else_
   kept-after h e = rw (le-ltb g sum h, le-leb next g e)
 
   pub kept-here : sum ≤ g → g < next
       → _≡_ {A = Mark} (record { found = true; spot = record { file = k; start = at; size = n; pos = record { 0 = g - sum }; inner = f } })
       (keptOf old g sum next k at n f)
-  unfolding keptOf pickMark
+  unfolding keptOf _if_else_
   kept-here h e = rw (le-ltb g sum h, lt-leb next g e)
 
 module _ (z : ℕ) (c l : List ℕ) where

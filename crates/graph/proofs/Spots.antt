@@ -7,6 +7,7 @@ use native.Mathlib.Omega.{arith}
 use lib.Dec.{ltb, leb}
 use denote.Ref.{RefT}
 use borrow.Author.Tests.{lt-ltb, le-ltb, le-leb, lt-leb, ltb-true, ltb-false}
+use Rattle.words.specs.First.{_if_else_}
 use Rattle.types.specs.Refusals.{refusal}
 use Rattle.types.specs.declared.refusal.Refusal.{Refusal}
 use Rattle.words.specs.Part.{RecordsOf}
@@ -15,9 +16,9 @@ use Rattle.words.proofs.Parts.{run-in}
 use Rattle.list.specs.List.{recordsOf, lengthAt}
 use Rattle.file.specs.declared.File.{File}
 use Rattle.file.specs.declared.Opening.the-variants.{Open}
-use Rattle.graph.specs.Chain.{pickRefusal, startAt, partAt, openAt, countAt, commitsIn, fileOf, posOf, opened, asked}
+use Rattle.graph.specs.Chain.{startAt, partAt, openAt, countAt, commitsIn, fileOf, posOf, opened, asked}
 use Rattle.graph.specs.Passes.{Holds, Viewed}
-use Rattle.graph.specs.Spots.{spotIn, pickLocated, located}
+use Rattle.graph.specs.Spots.{spotIn, located}
 use Rattle.graph.specs.Theorems.{Spotted, FileOf}
 use Rattle.graph.specs.declared.locate.Located.the-variants.{At, Refused as Nowhere}
 use Rattle.graph.specs.declared.locate.Spot.{Spot}
@@ -30,7 +31,7 @@ module _ (z : ℕ) (c l : List ℕ) (g : ℕ) where
   -- ── the ways through it ──
 
   nowhere : {q : Refusal} → q ≡ asked z c l g → 0 < q .number → Nowhere q ≡ located z c l g
-  unfolding located pickLocated
+  unfolding located _if_else_
   nowhere e h = rw (lt-ltb 0 (asked z c l g .number) (omega (arith, numbers e))) (ap Nowhere e)
 
   -- r is what a look at the chain gave
@@ -43,19 +44,19 @@ module _ (z : ℕ) (c l : List ℕ) (g : ℕ) where
       none : r .refusal .number ≡ 0
       none = omega arith
 
-      next : asked z c l g ≡ pickRefusal (leb (commitsIn z c l) g) (refusal 40 0) (opened z c l)
+      next : asked z c l g ≡ (refusal 40 0 if leb (commitsIn z c l) g else opened z c l)
       unfolding asked
       next = else-next (opened z c l) _ (omega (arith, numbers (v .refusal)))
 
       pub locate-out : r .mark .found ≡ false → {q : Refusal} → q ≡ refusal 40 0 → Nowhere q ≡ located z c l g
-      unfolding pickRefusal
+      unfolding _if_else_
       locate-out f {q} e =
           let b : commitsIn z c l ≤ g = v .kept none .outside f in
           let y : q .number ≡ 40 = numbers e in
           nowhere (e ∙ sym (next ∙ rw (le-leb (commitsIn z c l) g b))) (omega arith)
 
       pub locate-found : r .mark .found ≡ true → At (r .mark .spot) ≡ located z c l g
-      unfolding pickRefusal located pickLocated spotIn
+      unfolding _if_else_ located spotIn
       locate-found f =
           let s : Spot = r .mark .spot in
           let k : Holds z c l g (recordsOf z l) s = v .kept none .holds f in
@@ -90,12 +91,12 @@ module _ (z : ℕ) (c l : List ℕ) (g : ℕ) where
 
   -- an answered spot is the position's, and a refusal is the question's
   pub spotted : {r : Spot} → located z c l g ≡ At r → Spotted z c l g r
-  unfolding located pickLocated spotIn spot-of
+  unfolding located _if_else_ spotIn spot-of
   spotted {r} = go _ refl
     where
       go : (t : Bool) → ltb 0 (asked z c l g .number) ≡ t
-          → pickLocated t (Nowhere (asked z c l g))
-          (spotIn (fileOf z c l g) (startAt z c l (fileOf z c l g)) (lengthAt z l (fileOf z c l g)) (posOf z c l g)
+          → (Nowhere (asked z c l g) if t else
+          spotIn (fileOf z c l g) (startAt z c l (fileOf z c l g)) (lengthAt z l (fileOf z c l g)) (posOf z c l g)
           (openAt z c l (fileOf z c l g))) ≡ At r
           → Spotted z c l g r
       go true e d = let y : _≡_ {A = ℕ} 0 1 = cc in absurd (omega arith)
@@ -107,12 +108,12 @@ module _ (z : ℕ) (c l : List ℕ) (g : ℕ) where
           subst (Spotted z c l g) y (fine-spot a (o .1) (o .2))
 
   pub unspotted : {q : Refusal} → located z c l g ≡ Nowhere q → (q ≡ asked z c l g) × (0 < q .number)
-  unfolding located pickLocated spotIn
+  unfolding located _if_else_ spotIn
   unspotted {q} = go _ refl
     where
       go : (t : Bool) → ltb 0 (asked z c l g .number) ≡ t
-          → pickLocated t (Nowhere (asked z c l g))
-          (spotIn (fileOf z c l g) (startAt z c l (fileOf z c l g)) (lengthAt z l (fileOf z c l g)) (posOf z c l g)
+          → (Nowhere (asked z c l g) if t else
+          spotIn (fileOf z c l g) (startAt z c l (fileOf z c l g)) (lengthAt z l (fileOf z c l g)) (posOf z c l g)
           (openAt z c l (fileOf z c l g))) ≡ Nowhere q
           → (q ≡ asked z c l g) × (0 < q .number)
       go true e d =

@@ -6,13 +6,14 @@ use mathlib.Core.Path.{_≡_, refl, sym, ap, _∙_}
 use native.Mathlib.Omega.{arith}
 use lib.Dec.{leb}
 use borrow.Author.Tests.{leb-false}
+use Rattle.words.specs.First.{_if_else_}
 use Rattle.types.specs.Refusals.{refusal}
 use Rattle.words.proofs.Adds.{before-lt, which-below, within-below, within-sum, which-back, within-back}
 use Rattle.list.specs.List.{recordsOf}
 use Rattle.file.specs.declared.File.{File}
 use Rattle.file.specs.declared.Opening.{Opening}
 use Rattle.file.specs.declared.Opening.the-variants.{Open, Refused}
-use Rattle.graph.specs.Chain.{commitsOf, pickRefusal, openAt, countAt, commitsIn, fileOf, posOf, opened, asked}
+use Rattle.graph.specs.Chain.{commitsOf, openAt, countAt, commitsIn, fileOf, posOf, opened, asked}
 use Rattle.graph.specs.Theorems.{Stands}
 use Rattle.graph.proofs.Views.{else-none}
 
@@ -51,9 +52,9 @@ module _ (z : ℕ) (c l : List ℕ) where
   asked-opened g e = else-none (opened z c l) _ e .0
 
   pub asked-below : (g : ℕ) → asked z c l g .number ≡ 0 → g < commitsIn z c l
-  unfolding asked pickRefusal
-  asked-below g e = go _ refl (else-none (opened z c l) (pickRefusal (leb (commitsIn z c l) g) (refusal 40 0) (opened z c l)) e .1)
+  unfolding asked _if_else_
+  asked-below g e = go _ refl (else-none (opened z c l) (refusal 40 0 if leb (commitsIn z c l) g else opened z c l) e .1)
     where
-      go : (t : Bool) → leb (commitsIn z c l) g ≡ t → pickRefusal t (refusal 40 0) (opened z c l) .number ≡ 0 → g < commitsIn z c l
+      go : (t : Bool) → leb (commitsIn z c l) g ≡ t → (refusal 40 0 if t else opened z c l) .number ≡ 0 → g < commitsIn z c l
       go true q d = absurd (omega arith)
       go false q d = leb-false (commitsIn z c l) g q

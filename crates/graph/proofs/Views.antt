@@ -7,30 +7,31 @@ use native.Mathlib.Omega.{arith}
 use lib.Dec.{ltb}
 use lib.ListN.{length}
 use borrow.Author.Tests.{lt-ltb, le-ltb, ltb-true, ltb-false}
+use Rattle.words.specs.First.{_if_else_}
 use Rattle.types.specs.Refusals.{refusal}
 use Rattle.types.specs.declared.refusal.Refusal.{Refusal}
 use Rattle.words.specs.Sums.{before}
 use Rattle.list.specs.List.{recordsOf, listRule, listPlace}
 use Rattle.list.proofs.Records.{list-sound}
-use Rattle.graph.specs.Chain.{pickRefusal, orElse, openFrom, opened, countAt, pickOpening, openingOf, Listed}
+use Rattle.graph.specs.Chain.{orElse, openFrom, opened, countAt, openingOf, Listed}
 use Rattle.graph.specs.Passes.{Surveyed, Viewed}
 use Rattle.graph.specs.declared.init.Opening.the-variants.{Open as Whole, Refused as Not}
 use Rattle.graph.specs.declared.survey.Mark.{Mark}
 use Rattle.graph.specs.declared.survey.Survey.{Survey}
 
 pub else-first : (a b : Refusal) → 0 < a .number → orElse a b ≡ a
-unfolding orElse pickRefusal
+unfolding orElse _if_else_
 else-first a b h = rw (lt-ltb 0 (a .number) h)
 
 pub else-next : (a b : Refusal) → a .number ≡ 0 → orElse a b ≡ b
-unfolding orElse pickRefusal
+unfolding orElse _if_else_
 else-next a b h = rw (le-ltb 0 (a .number) (omega arith))
 
 pub else-none : (a b : Refusal) → orElse a b .number ≡ 0 → (a .number ≡ 0) × (b .number ≡ 0)
-unfolding orElse pickRefusal
+unfolding orElse _if_else_
 else-none a b = go (ltb 0 (a .number)) refl
   where
-    go : (t : Bool) → ltb 0 (a .number) ≡ t → pickRefusal t a b .number ≡ 0 → (a .number ≡ 0) × (b .number ≡ 0)
+    go : (t : Bool) → ltb 0 (a .number) ≡ t → (a if t else b) .number ≡ 0 → (a .number ≡ 0) × (b .number ≡ 0)
     go true q e = absurd (omega (arith, ltb-true 0 (a .number) q))
     go false q e = (omega (arith, ltb-false 0 (a .number) q), e)
 
@@ -82,9 +83,9 @@ module _ (z : ℕ) (c l : List ℕ) where
 
   module _ {g : ℕ} {r : Survey} (v : Viewed z c l g r) where
     pub opening-refused : 0 < r .refusal .number → Not (r .refusal) ≡ openingOf z c l
-    unfolding openingOf pickOpening
+    unfolding openingOf _if_else_
     opening-refused h = rw (lt-ltb 0 (opened z c l .number) (omega (arith, numbers (v .refusal)))) (ap Not (v .refusal))
 
     pub opening-whole : r .refusal .number ≤ 0 → Whole (r .commits) ≡ openingOf z c l
-    unfolding openingOf pickOpening
+    unfolding openingOf _if_else_
     opening-whole h = rw (le-ltb 0 (opened z c l .number) (omega (arith, numbers (v .refusal)))) (ap Whole (v .commits (omega arith)))

@@ -1,10 +1,10 @@
 -- The chain: document 01, "The chain". c is the chain's bytes, l the list's, and a record has z bytes. Files are functions of their index.
 use Prim.Native.Nat.{ℕ, zero, suc, _+_, _≤_}
 use mathlib.Core.List.{List}
-use mathlib.Core.Bool.{Bool, true, false}
 use mathlib.Core.Path.{_≡_}
 use lib.ListN.{length, take, drop}
 use lib.Dec.{ltb, leb}
+use Rattle.words.specs.First.{_if_else_}
 use Rattle.types.specs.Refusals.{refusal}
 use Rattle.types.specs.declared.refusal.Refusal.{Refusal}
 use Rattle.words.specs.Sums.{before, whichOf, withinOf}
@@ -29,12 +29,8 @@ widthIn (Open f) = f .width
 widthIn (Refused r) = 0
 
 -- a refusal with a number, else what comes after
-unfoldable pub pickRefusal : Bool → Refusal → Refusal → Refusal
-pickRefusal true a b = a
-pickRefusal false a b = b
-
 unfoldable pub orElse : Refusal → Refusal → Refusal
-orElse a b = pickRefusal (ltb 0 (a .number)) a b
+orElse a b = a if ltb 0 (a .number) else b
 
 module _ (z : ℕ) (c l : List ℕ) where
   -- where file k starts, its own bytes, and its opening
@@ -79,15 +75,11 @@ module _ (z : ℕ) (c l : List ℕ) where
 
   -- a question on a position: then 40
   unfoldable pub asked : ℕ → Refusal
-  asked g = orElse opened (pickRefusal (leb commitsIn g) (refusal 40 0) opened)
+  asked g = orElse opened (refusal 40 0 if leb commitsIn g else opened)
 
 -- what opening a chain answers
-unfoldable pub pickOpening : Bool → Chained → Chained → Chained
-pickOpening true a b = a
-pickOpening false a b = b
-
 unfoldable pub openingOf : ℕ → List ℕ → List ℕ → Chained
-openingOf z c l = pickOpening (ltb 0 (opened z c l .number)) (Not (opened z c l)) (Whole (commitsIn z c l))
+openingOf z c l = Not (opened z c l) if ltb 0 (opened z c l .number) else Whole (commitsIn z c l)
 
 -- a list that is not refused: n records, whose files lie in the chain
 pub record Listed (z : ℕ) (c l : List ℕ) (n : ℕ) : Type 0 where

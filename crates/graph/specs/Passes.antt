@@ -1,9 +1,10 @@
 -- What the private passes over a chain's files give.
 use Prim.Native.Nat.{ℕ, _+_, _-_, _≤_, _<_}
 use mathlib.Core.List.{List}
-use mathlib.Core.Bool.{Bool, true, false}
+use mathlib.Core.Bool.{true, false}
 use mathlib.Core.Path.{_≡_}
 use lib.Dec.{ltb, leb}
+use Rattle.words.specs.First.{_if_else_}
 use Rattle.file.specs.declared.File.{File}
 use Rattle.file.specs.declared.Opening.the-variants.{Open}
 use Rattle.words.specs.Sums.{before}
@@ -14,15 +15,11 @@ use Rattle.graph.specs.declared.survey.Mark.{Mark}
 use Rattle.graph.specs.declared.survey.Survey.{Survey}
 
 -- which file is kept after file k, which has n bytes
-unfoldable pub pickMark : Bool → Mark → Mark → Mark
-pickMark true a b = a
-pickMark false a b = b
-
 unfoldable pub keptOf : Mark → ℕ → ℕ → ℕ → ℕ → ℕ → ℕ → File → Mark
 keptOf old g sum next k at n f =
-    pickMark (ltb g sum) old
-    (pickMark (leb next g) old
-    (record { found = true; spot = record { file = k; start = at; size = n; pos = record { 0 = g - sum }; inner = f } }))
+    old if ltb g sum else
+    old if leb next g else
+    record { found = true; spot = record { file = k; start = at; size = n; pos = record { 0 = g - sum }; inner = f } }
 
 -- the file that has position g, where it is one of the first k
 pub record Holds (z : ℕ) (c l : List ℕ) (g k : ℕ) (r : Spot) : Type 0 where

@@ -7,6 +7,7 @@ use native.Mathlib.Omega.{arith}
 use lib.Dec.{leb, eqb}
 use lib.ListN.{length}
 use borrow.Author.Tests.{leb-true, leb-false}
+use Rattle.words.specs.First.{_if_else_, refuse}
 use Rattle.types.specs.declared.graph.Position.{Position}
 use Rattle.words.specs.Big.{be, Bytes}
 use Rattle.words.proofs.Numbers.{be-part, be-below, bytes-part}
@@ -15,12 +16,12 @@ use Rattle.chunk.specs.Index.{absent, startOf, sizeOf}
 use Rattle.fit.specs.Fits.{rowsPart, edgePart}
 use Rattle.file.specs.declared.File.{File}
 use Rattle.fit.proofs.Fitting.{Answered, answered, run-within}
-use Rattle.commit.specs.Commits.{pickEdge, edgeOf, commitOf, rowOf}
+use Rattle.commit.specs.Commits.{edgeOf, commitOf, rowOf}
 use Rattle.commit.specs.declared.Commit.{Commit}
 use Rattle.commit.specs.declared.ParentEdge.{ParentEdge}
 use Rattle.commit.specs.declared.ParentEdge.the-variants.{None, GraphPosition, ExtraEdgeIndex}
-use Rattle.steps.specs.Walks.{pickExtra, extraOf, edgeRule, extraNext, refuseNext, edgeNext, secondNext, aloneNext, firstNext, nextOf}
-use Rattle.parents.specs.Walks.{answerOf, refuseStep, stepOf}
+use Rattle.steps.specs.Walks.{extraOf, edgeRule, extraNext, edgeNext, secondNext, aloneNext, firstNext, nextOf, stop}
+use Rattle.parents.specs.Walks.{answerOf, stepOf, refusedStep}
 use Rattle.steps.specs.declared.ExtraEdge.the-variants.{Internal, Last}
 use Rattle.steps.specs.declared.Parent.{Parent as Ancestor}
 use Rattle.steps.specs.declared.Phase.{Phase}
@@ -39,11 +40,11 @@ no e = omega arith
 
 -- what a word says of the parent that it gives
 edge-said : (x : ℕ) {p : Position} → edgeOf x ≡ GraphPosition p → p .0 ≡ x % 0x80000000
-unfolding edgeOf pickEdge
+unfolding edgeOf _if_else_
 edge-said x {p} e = go (eqb x 0x70000000) (leb 0x80000000 x) refl e
   where
     go : (t u : Bool) → leb 0x80000000 x ≡ u
-        → pickEdge t None (pickEdge u (ExtraEdgeIndex (x - 0x80000000)) (GraphPosition (record { 0 = x }))) ≡ GraphPosition p
+        → (None if t else ExtraEdgeIndex (x - 0x80000000) if u else GraphPosition (record { 0 = x })) ≡ GraphPosition p
         → p .0 ≡ x % 0x80000000
     go true u d e = absurd (no (cc))
     go false true d e = absurd (no (cc))
@@ -53,11 +54,11 @@ edge-said x {p} e = go (eqb x 0x70000000) (leb 0x80000000 x) refl e
         omega (arith, leb-false 0x80000000 x d)
 
 extra-said : (x k : ℕ) {q : Ancestor} → x < 2 ^ 32 → extraNext (extraOf x) k .met ≡ Parent q → q .position .0 ≡ x % 0x80000000
-unfolding extraOf pickExtra extraNext
+unfolding extraOf _if_else_ extraNext
 extra-said x k {q} h = go (leb 0x80000000 x) refl
   where
     go : (t : Bool) → leb 0x80000000 x ≡ t
-        → extraNext (pickExtra t (Last (record { 0 = x - 0x80000000 })) (Internal (record { 0 = x }))) k .met ≡ Parent q
+        → extraNext (Last (record { 0 = x - 0x80000000 }) if t else Internal (record { 0 = x })) k .met ≡ Parent q
         → q .position .0 ≡ x % 0x80000000
     go true d e =
         let z : _≡_ {A = Ancestor} (record { position = record { 0 = x - 0x80000000 } }) q = cc in
@@ -71,17 +72,17 @@ extra-said x k {q} h = go (leb 0x80000000 x) refl
 -- an EDGE number that gives a parent
 edge-met : (t : Bool) (e : List ℕ) (k : ℕ) {q : Ancestor} → Bytes e → edgeNext t e k .met ≡ Parent q
     → (4 * k + 4 ≤ length e) × (q .position .0 ≡ be 4 e (4 * k) % 0x80000000)
-unfolding edgeNext refuseNext
+unfolding edgeNext refuse
 edge-met t e k {q} b = go (edgeRule t e k) refl
   where
-    go : (m : ℕ) → edgeRule t e k ≡ m → refuseNext m (extraNext (extraOf (be 4 e (4 * k))) k) .met ≡ Parent q
+    go : (m : ℕ) → edgeRule t e k ≡ m → refuse m stop (extraNext (extraOf (be 4 e (4 * k))) k) .met ≡ Parent q
         → (4 * k + 4 ≤ length e) × (q .position .0 ≡ be 4 e (4 * k) % 0x80000000)
     go zero d h = (edge-there t e k (sym d) (omega arith), extra-said (be 4 e (4 * k)) k (be-below e b 4 (4 * k)) h)
     go (suc m) d h = absurd (no (cc))
 
 -- a step that answers a parent is asked of a commit that is there, and meets that parent
-refuse-met : (m : ℕ) (x : Step) {q : Ancestor} → refuseStep m x .answer ≡ Told q → (m ≡ 0) × (x .answer ≡ Told q)
-unfolding refuseStep
+refuse-met : (m : ℕ) (x : Step) {q : Ancestor} → refuse m refusedStep x .answer ≡ Told q → (m ≡ 0) × (x .answer ≡ Told q)
+unfolding refuse
 refuse-met zero x e = (refl, e)
 refuse-met (suc m) x e = let z : _≡_ {A = ℕ} 0 1 = cc in absurd (omega arith)
 

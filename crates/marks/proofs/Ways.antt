@@ -6,16 +6,16 @@ use native.Mathlib.Omega.{arith}
 use lib.ListN.{length}
 use denote.Ref.{RefT}
 use borrow.Author.Tests.{lt-ltb, le-ltb, eq-eqb, ne-eqb}
+use Rattle.words.proofs.Rows.{refuse-some}
 use Rattle.types.specs.Refusals.{refusal}
 use Rattle.words.specs.Big.{Bytes}
-use Rattle.words.specs.First.{_if_else_}
+use Rattle.words.specs.First.{_if_else_, refuse}
 use Rattle.words.specs.Part.{RecordsOf}
 use Rattle.words.proofs.Parts.{length-part, records-in}
 use Rattle.chunk.specs.declared.Span.{Span}
 use Rattle.fit.specs.Fits.{askRule, fanPart, idsPart, rowsPart}
 use Rattle.file.specs.declared.File.{File}
 use Rattle.fit.proofs.Fitting.{Answered, run-within}
-use Rattle.access.specs.declared.Asking.{Asking}
 use Rattle.access.specs.declared.Asking.the-variants.{Fine, Refused as Met}
 use Rattle.parents.specs.Walks.{stepOf}
 use Rattle.steps.specs.declared.Parent.{Parent as Ancestor}
@@ -26,8 +26,7 @@ use Rattle.parents.specs.declared.Answer.the-variants.{Parent, Refused as No, E
 use Rattle.rules.specs.Rules.{sumRule, sumIn, entryRule, entryIn}
 use Rattle.rules.proofs.Trailers.{sum-plain}
 use Rattle.rules.proofs.Entries.{entry-plain}
-use Rattle.marks.specs.Marks.{run, fieldAt, placeOf, markBy, wordOf, Meets, Reads, Read, refuseMark, dateOf, refuseAsking, entryOf, sizeRule}
-use Rattle.marks.specs.Marks.{refuseCheck, pickCheck, trailerAt, checkOf}
+use Rattle.marks.specs.Marks.{run, fieldAt, placeOf, markBy, wordOf, Meets, Reads, Read, dateOf, entryOf, sizeRule, trailerAt, checkOf, notMarked, notFine}
 use Rattle.marks.specs.declared.Mark.{Mark}
 use Rattle.marks.specs.declared.Mark.the-variants.{At, Refused}
 use Rattle.marks.specs.declared.Checked.the-variants.{Right, Wrong, Refused as Bad}
@@ -68,26 +67,21 @@ module _ (l : List ℕ) (f : File) (i : ℕ) (s : Phase) where
 
 module _ (l : List ℕ) (f : File) (i : ℕ) {m : ℕ} (d : m ≡ askRule l f (f .commits) i) where
   pub date-out : 0 < m → Refused (refusal m 0) ≡ dateOf l f i
-  unfolding dateOf refuseMark
+  unfolding dateOf refuse
   date-out h = rw (← d) (go m h)
     where
-      go : (n : ℕ) → 0 < n → Refused (refusal n 0) ≡ refuseMark n (At (run (fieldAt f i 8) 8))
+      go : (n : ℕ) → 0 < n → Refused (refusal n 0) ≡ refuse n notMarked (At (run (fieldAt f i 8) 8))
       go zero h = absurd (omega arith)
       go (suc n) h = refl
 
   pub date-in : m ≤ 0 → At (run (fieldAt f i 8) 8) ≡ dateOf l f i
-  unfolding dateOf refuseMark
+  unfolding dateOf refuse
   date-in h = let z : askRule l f (f .commits) i ≡ 0 = omega arith in rw z
-
-refuse-some : (n p : ℕ) (rest : Asking) → 0 < n → Met (refusal n p) ≡ refuseAsking n p rest
-unfolding refuseAsking
-refuse-some zero p rest h = absurd (omega arith)
-refuse-some (suc n) p rest h = refl
 
 module _ (l : List ℕ) (f : File) (i : ℕ) where
   pub entry-out : {m : ℕ} → m ≡ askRule l f (f .commits) i → 0 < m → Met (refusal m 0) ≡ entryOf l f i
   unfolding entryOf
-  entry-out {m} d h = rw (← d) (refuse-some m 0 _ h)
+  entry-out {m} d h = rw (← d) (refuse-some m (notFine 0) _ h)
 
   module _ (k : Answered l f (f .commits) i) {n : ℕ} (d : n ≡ entryIn (f .width) (fanPart l f) (idsPart l f) (rowsPart l f) i) where
     plain : n ≡ entryRule (f .width) (fanPart l f) (idsPart l f) (rowsPart l f) i
@@ -98,11 +92,11 @@ module _ (l : List ℕ) (f : File) (i : ℕ) where
         (rw (length-part (f .cdat) _ l (k .fits .rows)) (run-within i (f .commits) (f .width + 16) (k .below)))
 
     pub entry-bad : 0 < n → Met (refusal n i) ≡ entryOf l f i
-    unfolding entryOf refuseAsking
-    entry-bad h = rw (k .rule, ← plain) (refuse-some n i _ h)
+    unfolding entryOf refuse
+    entry-bad h = rw (k .rule, ← plain) (refuse-some n (notFine i) _ h)
 
     pub entry-fine : n ≤ 0 → Fine ≡ entryOf l f i
-    unfolding entryOf refuseAsking
+    unfolding entryOf refuse
     entry-fine h = let z : entryRule (f .width) (fanPart l f) (idsPart l f) (rowsPart l f) i ≡ 0 = omega (arith, plain) in rw (k .rule, z)
 
 -- the entry's rule, asked of the parts that were cut out
@@ -120,12 +114,12 @@ entry-cut s a b c {f} k p q r =
 
 module _ (l : List ℕ) where
   pub check-large : 1073741824 < length l → Bad (refusal 1 0) ≡ checkOf l
-  unfolding checkOf sizeRule _if_else_ refuseCheck
+  unfolding checkOf sizeRule _if_else_ refuse
   check-large h = rw (lt-ltb 1073741824 (length l) h)
 
   module _ (h : length l ≤ 1073741824) where
     pub check-small : length l < 1100 → Bad (refusal 2 0) ≡ checkOf l
-    unfolding checkOf sizeRule _if_else_ refuseCheck
+    unfolding checkOf sizeRule _if_else_ refuse
     check-small g = rw (le-ltb 1073741824 (length l) h, lt-ltb (length l) 1100 g)
 
     module _ (g : 1100 ≤ length l) {n : ℕ} (d : n ≡ sumIn 20 l) where
@@ -137,9 +131,9 @@ module _ (l : List ℕ) where
       summed = d ∙ sum-plain 20 l refl (omega arith)
 
       pub check-wrong : 0 < n → Wrong (trailerAt l) ≡ checkOf l
-      unfolding checkOf refuseCheck pickCheck
+      unfolding checkOf refuse _if_else_
       check-wrong z = rw (sized, ne-eqb (sumRule 20 l) 0 (λ e. omega (arith, summed)))
 
       pub check-right : n ≤ 0 → Right (trailerAt l) ≡ checkOf l
-      unfolding checkOf refuseCheck pickCheck
+      unfolding checkOf refuse _if_else_
       check-right z = rw (sized, eq-eqb (sumRule 20 l) 0 (omega (arith, summed)))

@@ -1,13 +1,12 @@
 -- Where things stand in a file's bytes: l is those bytes, f the file's record, i the position of a commit in it.
-use Prim.Native.Nat.{ℕ, zero, suc, _+_, _-_, _*_, _%_, _≤_}
+use Prim.Native.Nat.{ℕ, _+_, _-_, _*_, _%_, _≤_}
 use mathlib.Core.List.{List}
-use mathlib.Core.Bool.{Bool, true, false}
 use mathlib.Core.Path.{_≡_}
 use lib.ListN.{length}
 use lib.Dec.{ltb, eqb}
 use Rattle.types.specs.Refusals.{refusal}
 use Rattle.words.specs.Big.{be}
-use Rattle.words.specs.First.{_if_else_}
+use Rattle.words.specs.First.{_if_else_, refuse}
 use Rattle.chunk.specs.Index.{startOf}
 use Rattle.chunk.specs.declared.Span.{Span}
 use Rattle.fit.specs.Fits.{askRule, fanPart, idsPart, rowsPart}
@@ -78,23 +77,21 @@ Read l f i s m = (p : Span) → m ≡ At p → Reads l f i s p
 
 -- ── a date: generation and time, 8 bytes ──
 
-unfoldable pub refuseMark : ℕ → Mark → Mark
-refuseMark zero rest = rest
-refuseMark (suc n) rest = Refused (refusal (suc n) 0)
+abbrev pub notMarked : ℕ → Mark
+notMarked n = Refused (refusal n 0)
 
 unfoldable pub dateOf : List ℕ → File → ℕ → Mark
-dateOf l f i = refuseMark (askRule l f (f .commits) i) (At (run (fieldAt f i 8) 8))
+dateOf l f i = refuse (askRule l f (f .commits) i) notMarked (At (run (fieldAt f i 8) 8))
 
 -- ── an entry: 40 with place 0, then 64 to 67 with the commit as place ──
 
-unfoldable pub refuseAsking : ℕ → ℕ → Asking → Asking
-refuseAsking zero place rest = rest
-refuseAsking (suc n) place rest = Met (refusal (suc n) place)
+abbrev pub notFine : ℕ → ℕ → Asking
+notFine place n = Met (refusal n place)
 
 unfoldable pub entryOf : List ℕ → File → ℕ → Asking
 entryOf l f i =
-    refuseAsking (askRule l f (f .commits) i) 0
-    (refuseAsking (entryRule (f .width) (fanPart l f) (idsPart l f) (rowsPart l f) i) i
+    refuse (askRule l f (f .commits) i) (notFine 0)
+    (refuse (entryRule (f .width) (fanPart l f) (idsPart l f) (rowsPart l f) i) (notFine i)
     Fine)
 
 -- ── the trailer: the last 20 bytes, of any bytes whose number is a file's ──
@@ -105,13 +102,8 @@ sizeRule l =
     2 if ltb (length l) 1100 else
     0
 
-unfoldable pub refuseCheck : ℕ → Checked → Checked
-refuseCheck zero rest = rest
-refuseCheck (suc n) rest = Bad (refusal (suc n) 0)
-
-unfoldable pub pickCheck : Bool → Checked → Checked → Checked
-pickCheck true a b = a
-pickCheck false a b = b
+abbrev pub notChecked : ℕ → Checked
+notChecked n = Bad (refusal n 0)
 
 abbrev pub trailerAt : List ℕ → Span
 trailerAt l = record { start = length l - 20; end = length l }
@@ -119,5 +111,5 @@ trailerAt l = record { start = length l - 20; end = length l }
 -- right exactly if 62 does not apply
 unfoldable pub checkOf : List ℕ → Checked
 checkOf l =
-    refuseCheck (sizeRule l)
-    (pickCheck (eqb (sumRule 20 l) 0) (Right (trailerAt l)) (Wrong (trailerAt l)))
+    refuse (sizeRule l) notChecked
+    (Right (trailerAt l) if eqb (sumRule 20 l) 0 else Wrong (trailerAt l))

@@ -7,13 +7,13 @@ use native.Mathlib.Numerals.{add-one}
 use lib.ListN.{length, set, take, drop, length-set, take-append-drop, drop-of-length-le}
 use lib.Seq.{take-all}
 use borrow.Author.Tests.{lt-ltb, le-ltb}
+use Rattle.words.specs.First.{_if_else_}
 use Rattle.types.specs.Refusals.{refusal}
 use Rattle.types.specs.declared.refusal.Refusal.{Refusal}
 use Rattle.file.specs.declared.File.{File}
 use Rattle.steps.specs.Walks.{Walked, ends, parent, positions}
 use Rattle.parents.specs.Walks.{walkOf, totalOf}
-use Rattle.parents.specs.Lists.{overlay, pickTotal, fitTotal, listOf, heldBy, heldOf}
-use Rattle.parents.specs.declared.Total.{Total}
+use Rattle.parents.specs.Lists.{overlay, fitTotal, listOf, heldBy, heldOf}
 use Rattle.parents.specs.declared.Total.the-variants.{Count as Whole, Refused as Short}
 
 -- one entry more
@@ -64,10 +64,10 @@ module _ (l : List ℕ) (f : File) (i : ℕ) (xs : List ℕ) where
 
   module _ {n : ℕ} (e : Whole n ≡ totalOf l f i) where
     pub list-full : length xs < n → (Short (refusal 55 i) ≡ listOf l f i (length xs)) × (xs ≡ heldOf l f i xs)
-    unfolding listOf heldOf heldBy fitTotal pickTotal
+    unfolding listOf heldOf heldBy fitTotal _if_else_
     list-full h = (rw (← e, lt-ltb (length xs) n h), rw (← e, lt-ltb (length xs) n h))
 
     pub list-whole : n ≤ length xs → {out : List ℕ} → out ≡ overlay (positions (walkOf l f i)) xs
         → (Whole n ≡ listOf l f i (length xs)) × (out ≡ heldOf l f i xs)
-    unfolding listOf heldOf heldBy fitTotal pickTotal
+    unfolding listOf heldOf heldBy fitTotal _if_else_
     list-whole h d = (rw (← e, le-ltb (length xs) n h), d ∙ rw (← e, le-ltb (length xs) n h))

@@ -1,9 +1,9 @@
 -- The parent list: document 01, "Parent list". The walk to its end, written over the front of a lent list; walk refusals come before 55.
 use Prim.Native.Nat.{ℕ}
 use mathlib.Core.List.{List, [], _∷_}
-use mathlib.Core.Bool.{Bool, true, false}
 use lib.ListN.{length}
 use lib.Dec.{ltb}
+use Rattle.words.specs.First.{_if_else_}
 use Rattle.types.specs.Refusals.{refusal}
 use Rattle.file.specs.declared.File.{File}
 use Rattle.steps.specs.Walks.{positions}
@@ -18,12 +18,8 @@ overlay (p ∷ ps) [] = []
 overlay (p ∷ ps) (x ∷ xs) = p ∷ overlay ps xs
 
 -- the answer for commit i and a list of m entries
-unfoldable pub pickTotal : Bool → Total → Total → Total
-pickTotal true a b = a
-pickTotal false a b = b
-
 unfoldable pub fitTotal : ℕ → ℕ → Total → Total
-fitTotal i m (Whole n) = pickTotal (ltb m n) (Short (refusal 55 i)) (Whole n)
+fitTotal i m (Whole n) = Short (refusal 55 i) if ltb m n else Whole n
 fitTotal i m (Short r) = Short r
 
 unfoldable pub listOf : List ℕ → File → ℕ → ℕ → Total

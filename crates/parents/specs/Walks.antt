@@ -1,7 +1,8 @@
 -- A file's commit: document 01, "Parent step". The walk over its parents, one step of it, and how many there are.
-use Prim.Native.Nat.{ℕ, zero, suc}
+use Prim.Native.Nat.{ℕ}
 use mathlib.Core.List.{List}
 use mathlib.Core.Bool.{not}
+use Rattle.words.specs.First.{refuse}
 use Rattle.types.specs.Refusals.{refusal}
 use Rattle.chunk.specs.Index.{absent}
 use Rattle.fit.specs.Fits.{askRule, edgePart}
@@ -37,13 +38,9 @@ stepBy i n = record { answer = answerOf i (n .met); next = n .phase }
 abbrev pub refusedStep : ℕ → Step
 refusedStep n = record { answer = AnsweredNo (refusal n 0); next = Exhausted }
 
-unfoldable pub refuseStep : ℕ → Step → Step
-refuseStep zero rest = rest
-refuseStep (suc n) rest = refusedStep (suc n)
-
 unfoldable pub stepOf : List ℕ → File → ℕ → Phase → Step
 stepOf l f i s =
-    refuseStep (askRule l f (f .commits) i)
+    refuse (askRule l f (f .commits) i) refusedStep
     (stepBy i (nextOf (rowOf l f i .first) (rowOf l f i .second) (not (absent (f .edge))) (edgePart l f) s))
 
 -- how many parents commit i has
@@ -51,11 +48,10 @@ unfoldable pub totalBy : ℕ → Counted → Total
 totalBy i (Count n) = Whole n
 totalBy i (Stopped r) = Short (refusal r i)
 
-unfoldable pub refuseTotal : ℕ → Total → Total
-refuseTotal zero rest = rest
-refuseTotal (suc n) rest = Short (refusal (suc n) 0)
+abbrev pub notCounted : ℕ → Total
+notCounted n = Short (refusal n 0)
 
 unfoldable pub totalOf : List ℕ → File → ℕ → Total
 totalOf l f i =
-    refuseTotal (askRule l f (f .commits) i)
+    refuse (askRule l f (f .commits) i) notCounted
     (totalBy i (countOf (rowOf l f i .first) (rowOf l f i .second) (not (absent (f .edge))) (edgePart l f)))

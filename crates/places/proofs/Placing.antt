@@ -19,7 +19,7 @@ use Rattle.access.specs.Lookup.{asking}
 use Rattle.access.specs.declared.Asking.{Asking}
 use Rattle.access.specs.declared.Asking.the-variants.{Fine, Refused as Met}
 use Rattle.access.proofs.Asks.{asking-some, asking-none}
-use Rattle.ask.specs.Questions.{pickAsking, askingBy}
+use Rattle.ask.specs.Questions.{askingBy}
 use Rattle.flat.specs.declared.Part.{Part}
 use Rattle.flat.specs.Images.{flatPart}
 use Rattle.places.specs.Places.{Names}
@@ -48,19 +48,19 @@ names s (suc m) at size q p = rw (ne-eqb (suc m) 0 (λ e. omega arith)) at p
 -- the ways through a question by its refusal m, whose number is 0 where there is none
 module _ {m a : Refusal} (at size : ℕ) (e : m ≡ a) {x : Part} where
   pub part-barred : x ≡ flatPart (Met m) 0 0 → 0 < m .number → x ≡ flatPart (askingBy a) at size
-  unfolding askingBy pickAsking
+  unfolding askingBy _if_else_
   part-barred p h = p ∙ rw (← e, lt-ltb 0 (m .number) h)
 
   pub part-open : x ≡ flatPart Fine at size → m .number ≤ 0 → x ≡ flatPart (askingBy a) at size
-  unfolding askingBy pickAsking
+  unfolding askingBy _if_else_
   part-open p h = p ∙ rw (← e, le-ltb 0 (m .number) h)
 
 -- and so on a chain, whose questions answer the refusal whole
 pub names-by : (s : RefT (List ℕ)) (a : Refusal) (at size : ℕ) → Names s (a .number) at size (flatPart (askingBy a) at size)
-unfolding askingBy pickAsking _if_else_
+unfolding askingBy _if_else_
 names-by s a at size q p = go (ltb 0 (a .number)) refl
   where
     go : (t : Bool) → ltb 0 (a .number) ≡ t
-        → PartOf s (flatPart (pickAsking t (Met a) Fine) at size .at) (flatPart (pickAsking t (Met a) Fine) at size .size) q
+        → PartOf s (flatPart (Met a if t else Fine) at size .at) (flatPart (Met a if t else Fine) at size .size) q
     go true d = rw (ne-eqb (a .number) 0 (λ e. omega (arith, ltb-true 0 (a .number) d))) at p
     go false d = rw (eq-eqb (a .number) 0 (omega (arith, ltb-false 0 (a .number) d))) at p

@@ -9,8 +9,8 @@ use borrow.Author.Tests.{le-leb, lt-leb, leb-true}
 use lib.Dec.{leb}
 use lib.ListN.{length, take, drop, length-drop}
 use lib.Seq.{take-all, length-take-le}
+use Rattle.words.specs.First.{_if_else_}
 use Rattle.words.proofs.Numbers.{le-or-lt}
-use Rattle.text.specs.Text.{pickList}
 use Rattle.audit.specs.declared.Verification.{Verification}
 use Rattle.audit.specs.Rules.{verification}
 use Rattle.report.specs.Output.{line, answerLines, sizeOf, chainOf, readable, verified, outputOf}
@@ -64,11 +64,11 @@ module _ (input : List ℕ) where
 
   pub output-read : {b : Bool} {v : Verification} → b ≡ readable input → b ≡ true → v ≡ verified input
       → outputOf input ≡ answerLines (v .verdict) (v .counts)
-  unfolding outputOf pickList
+  unfolding outputOf _if_else_
   output-read p e q = rw (sym p, e, q)
 
   pub output-not : {b : Bool} → b ≡ readable input → b ≡ false → outputOf input ≡ line "unreadable" []
-  unfolding outputOf pickList
+  unfolding outputOf _if_else_
   output-not p e = rw (sym p, e)
 
   -- a text that stands at the start of the buffer is what the program prints

@@ -6,8 +6,9 @@ use mathlib.Core.Bool.{Bool, _&&_}
 use mathlib.Core.List.{List, [], _∷_, _++_}
 use lib.Dec.{ltb, leb, eqb}
 use lib.ListN.{length, getD, take, drop}
+use Rattle.words.specs.First.{_if_else_}
 use Rattle.words.specs.Big.{be}
-use Rattle.text.specs.Text.{pickList, dec}
+use Rattle.text.specs.Text.{dec}
 use Rattle.audit.specs.declared.Length.{Length}
 use Rattle.audit.specs.declared.Length.the-variants.{Steps, Cyclic}
 use Rattle.audit.specs.declared.Verdict.{Verdict}
@@ -39,11 +40,11 @@ lengthWord Cyclic = ascii "cyclic"
 
 -- how many parents a key stands for
 unfoldable pub keyWord : ℕ → List ℕ
-keyWord k = pickList (eqb k 65) (ascii "more") (dec k)
+keyWord k = ascii "more" if eqb k 65 else dec k
 
 -- the line of a count, if it is above 0
 unfoldable pub countLine : ℕ → ℕ → List ℕ
-countLine k n = pickList (ltb 0 n) (line "parents" (keyWord k ∷ dec n ∷ [])) []
+countLine k n = line "parents" (keyWord k ∷ dec n ∷ []) if ltb 0 n else []
 
 -- the lines of the keys below k, rising
 unfoldable pub countLines : List ℕ → ℕ → List ℕ
@@ -80,4 +81,5 @@ verified input = verification 32 (chainOf input) (listOf input)
 
 unfoldable pub outputOf : List ℕ → List ℕ
 outputOf input =
-    pickList (readable input) (answerLines (verified input .verdict) (verified input .counts)) (line "unreadable" [])
+    answerLines (verified input .verdict) (verified input .counts) if readable input else
+    line "unreadable" []

@@ -8,10 +8,10 @@ use lib.Dec.{ltb, leb, lit<}
 use lib.ListN.{length}
 use borrow.Author.Tests.{le-leb, lt-leb, ltb-false}
 use Rattle.words.specs.Big.{be}
-use Rattle.words.specs.First.{_if_else_}
-use Rattle.words.proofs.Rows.{pass}
-use Rattle.steps.specs.Walks.{pickExtra, extraOf, stop, edgeRule, extraNext, refuseNext, edgeNext, secondNext, aloneNext, firstNext, nextOf}
-use Rattle.steps.specs.Walks.{Walked, ends, parent, extraWalk, refuseWalk, edgeFrom, wordsIn, edgeWalk, secondWalk, aloneWalk, firstWalk, restOf}
+use Rattle.words.specs.First.{_if_else_, refuse}
+use Rattle.words.proofs.Rows.{pass, refuse-some}
+use Rattle.steps.specs.Walks.{extraOf, stop, edgeRule, extraNext, edgeNext, secondNext, aloneNext, firstNext, nextOf}
+use Rattle.steps.specs.Walks.{Walked, ends, parent, extraWalk, edgeFrom, wordsIn, edgeWalk, secondWalk, aloneWalk, firstWalk, restOf}
 use Rattle.steps.specs.Walks.{positions, endOf, counted, countFrom, countOf}
 use Rattle.commit.specs.declared.ParentEdge.{ParentEdge}
 use Rattle.commit.specs.declared.ParentEdge.the-variants.{None, GraphPosition, ExtraEdgeIndex}
@@ -29,23 +29,18 @@ use Rattle.steps.specs.declared.Counted.the-variants.{Count, Refused as 
 -- the ways through an EDGE word
 module _ (x : ℕ) where
   pub extra-last : 0x80000000 ≤ x → Last (record { 0 = x - 0x80000000 }) ≡ extraOf x
-  unfolding extraOf pickExtra
+  unfolding extraOf _if_else_
   extra-last h = rw (le-leb 0x80000000 x h)
 
   pub extra-more : x < 0x80000000 → Internal (record { 0 = x }) ≡ extraOf x
-  unfolding extraOf pickExtra
+  unfolding extraOf _if_else_
   extra-more h = rw (lt-leb 0x80000000 x h)
-
-refuse-some : (n : ℕ) (rest : Next) → 0 < n → stop n ≡ refuseNext n rest
-unfolding refuseNext
-refuse-some zero rest h = absurd (omega arith)
-refuse-some (suc n) rest h = refl
 
 -- the ways through an EDGE number: m is what its rule said
 module _ (t : Bool) (e : List ℕ) (k : ℕ) {m : ℕ} (d : m ≡ edgeRule t e k) where
   pub edge-refused : 0 < m → stop m ≡ edgeNext t e k
   unfolding edgeNext
-  edge-refused h = rw (← d) (refuse-some m _ h)
+  edge-refused h = rw (← d) (refuse-some m stop _ h)
 
   pub edge-there : m ≤ 0 → 4 * k + 4 ≤ length e
   unfolding edgeRule
@@ -57,7 +52,7 @@ module _ (t : Bool) (e : List ℕ) (k : ℕ) {m : ℕ} (d : m ≡ edgeRule t e k
       ltb-false (length e) (4 * k + 4) (p3 .0)
 
   pub edge-goes : m ≤ 0 → {w : ℕ} → w ≡ be 4 e (4 * k) → {x v : ExtraEdge} → x ≡ extraOf w → x ≡ v → extraNext v k ≡ edgeNext t e k
-  unfolding edgeNext refuseNext
+  unfolding edgeNext refuse
   edge-goes h q p g =
       let z : edgeRule t e k ≡ 0 = omega arith in
       rw (z, ← q) (ap (λ (y : ExtraEdge). extraNext y k) (sym g ∙ p))
@@ -78,8 +73,8 @@ module _ (a b : ParentEdge) (t : Bool) (e : List ℕ) where
   extra-follow (Internal p) k = refl
 
   refuse-follow : (n : ℕ) (x : ExtraEdge) (k : ℕ)
-      → refuseWalk n (extraWalk x (edgeWalk t e (k + 1))) ≡ follow (refuseNext n (extraNext x k)) (restOf a b t e)
-  unfolding refuseWalk refuseNext followMet
+      → refuse n ends (extraWalk x (edgeWalk t e (k + 1))) ≡ follow (refuse n stop (extraNext x k)) (restOf a b t e)
+  unfolding refuse followMet
   refuse-follow zero x k = extra-follow x k
   refuse-follow (suc n) x k = refl
 
@@ -92,8 +87,8 @@ module _ (a b : ParentEdge) (t : Bool) (e : List ℕ) where
       go true = rw (le-leb (length e) (4 * k) (omega arith)) (omega arith)
       go false = omega arith
 
-  past-follow : (n : ℕ) (rest : Next) → 0 < n → ends n ≡ follow (refuseNext n rest) (restOf a b t e)
-  unfolding refuseNext followMet
+  past-follow : (n : ℕ) (rest : Next) → 0 < n → ends n ≡ follow (refuse n stop rest) (restOf a b t e)
+  unfolding refuse followMet
   past-follow zero rest h = absurd (omega arith)
   past-follow (suc n) rest h = refl
 
@@ -102,7 +97,7 @@ module _ (a b : ParentEdge) (t : Bool) (e : List ℕ) where
   edge-follow k = go (wordsIn e - k) refl
     where
       go : (left : ℕ) → wordsIn e - k ≡ left
-          → edgeFrom t e left k ≡ follow (refuseNext (edgeRule t e k) (extraNext (extraOf (be 4 e (4 * k))) k)) (restOf a b t e)
+          → edgeFrom t e left k ≡ follow (refuse (edgeRule t e k) stop (extraNext (extraOf (be 4 e (4 * k))) k)) (restOf a b t e)
       go zero q = past-follow (edgeRule t e k) _ (past-rule k (omega arith))
       go (suc left) q =
           let d : wordsIn e - (k + 1) ≡ left = omega arith in
@@ -154,12 +149,12 @@ module _ (t : Bool) (e : List ℕ) where
   extra-fair (Internal p) k n h g = omega arith
 
   edge-fair : (k n : ℕ) → wordsIn e - k + 1 ≤ n → Fair e n (edgeNext t e k .met) (edgeNext t e k .phase)
-  unfolding edgeNext refuseNext Fair
+  unfolding edgeNext refuse Fair
   edge-fair k n g = go (edgeRule t e k) refl
     where
       go : (m : ℕ) → edgeRule t e k ≡ m
-          → Fair e n (refuseNext m (extraNext (extraOf (be 4 e (4 * k))) k) .met)
-          (refuseNext m (extraNext (extraOf (be 4 e (4 * k))) k) .phase)
+          → Fair e n (refuse m stop (extraNext (extraOf (be 4 e (4 * k))) k) .met)
+          (refuse m stop (extraNext (extraOf (be 4 e (4 * k))) k) .phase)
       go zero q = let h : 4 * k + 4 ≤ length e = edge-there t e k (sym q) (omega arith) in extra-fair _ k n (omega arith) g
       go (suc m) q = (omega arith, refl)
 

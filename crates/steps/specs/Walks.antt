@@ -2,31 +2,26 @@
 -- and t whether there is such a chunk.
 use Prim.Native.Nat.{ℕ, zero, suc, _+_, _-_, _*_, _/_}
 use mathlib.Core.List.{List, [], _∷_}
-use mathlib.Core.Bool.{Bool, true, false, not}
+use mathlib.Core.Bool.{Bool, not}
 use lib.ListN.{length}
 use lib.Dec.{ltb, leb}
 use Rattle.types.specs.declared.graph.Position.{Position}
 use Rattle.words.specs.Big.{be}
-use Rattle.words.specs.First.{_if_else_}
+use Rattle.words.specs.First.{_if_else_, refuse}
 use Rattle.commit.specs.declared.ParentEdge.{ParentEdge}
 use Rattle.commit.specs.declared.ParentEdge.the-variants.{None, GraphPosition, ExtraEdgeIndex}
 use Rattle.steps.specs.declared.ExtraEdge.{ExtraEdge}
 use Rattle.steps.specs.declared.ExtraEdge.the-variants.{Internal, Last}
 use Rattle.steps.specs.declared.Phase.{Phase}
 use Rattle.steps.specs.declared.Phase.the-variants.{First, Second, Edge, Exhausted}
-use Rattle.steps.specs.declared.Met.{Met}
 use Rattle.steps.specs.declared.Met.the-variants.{Parent, Refused, End}
 use Rattle.steps.specs.declared.Next.{Next}
 use Rattle.steps.specs.declared.Counted.{Counted}
 use Rattle.steps.specs.declared.Counted.the-variants.{Count, Refused as Stopped}
 
 -- an EDGE word
-unfoldable pub pickExtra : Bool → ExtraEdge → ExtraEdge → ExtraEdge
-pickExtra true a b = a
-pickExtra false a b = b
-
 unfoldable pub extraOf : ℕ → ExtraEdge
-extraOf x = pickExtra (leb 0x80000000 x) (Last (record { 0 = x - 0x80000000 })) (Internal (record { 0 = x }))
+extraOf x = Last (record { 0 = x - 0x80000000 }) if leb 0x80000000 x else Internal (record { 0 = x })
 
 -- ── one step ──
 
@@ -52,12 +47,8 @@ unfoldable pub extraNext : ExtraEdge → ℕ → Next
 extraNext (Last p) k = onward p Exhausted
 extraNext (Internal p) k = onward p (Edge (k + 1))
 
-unfoldable pub refuseNext : ℕ → Next → Next
-refuseNext zero rest = rest
-refuseNext (suc n) rest = stop (suc n)
-
 unfoldable pub edgeNext : Bool → List ℕ → ℕ → Next
-edgeNext t e k = refuseNext (edgeRule t e k) (extraNext (extraOf (be 4 e (4 * k))) k)
+edgeNext t e k = refuse (edgeRule t e k) stop (extraNext (extraOf (be 4 e (4 * k))) k)
 
 -- the second word
 unfoldable pub secondNext : Bool → List ℕ → ParentEdge → Next
@@ -93,14 +84,10 @@ unfoldable pub extraWalk : ExtraEdge → Walked → Walked
 extraWalk (Last p) rest = parent (p .0) (ends 0)
 extraWalk (Internal p) rest = parent (p .0) rest
 
-unfoldable pub refuseWalk : ℕ → Walked → Walked
-refuseWalk zero rest = rest
-refuseWalk (suc n) rest = ends (suc n)
-
 -- from EDGE number k on, with so many words left, a cut one counted
 unfoldable pub edgeFrom : Bool → List ℕ → ℕ → ℕ → Walked
 edgeFrom t e zero k = ends (edgeRule t e k)
-edgeFrom t e (suc left) k = refuseWalk (edgeRule t e k) (extraWalk (extraOf (be 4 e (4 * k))) (edgeFrom t e left (k + 1)))
+edgeFrom t e (suc left) k = refuse (edgeRule t e k) ends (extraWalk (extraOf (be 4 e (4 * k))) (edgeFrom t e left (k + 1)))
 
 abbrev pub wordsIn : List ℕ → ℕ
 wordsIn e = (length e + 3) / 4

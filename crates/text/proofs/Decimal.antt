@@ -6,12 +6,13 @@ use mathlib.Core.Logic.{⊎-elim}
 use native.Mathlib.Omega.{arith}
 use borrow.Author.Tests.{lt-ltb, le-ltb}
 use lib.ListN.{length, length-append}
+use Rattle.words.specs.First.{_if_else_}
 use Rattle.words.proofs.Numbers.{le-or-lt}
-use Rattle.text.specs.Text.{pickList, digits, dec}
+use Rattle.text.specs.Text.{digits, dec}
 
 -- more digits than are needed change nothing
 enough : (k j n : ℕ) → n < 10 ^ suc k → n < 10 ^ suc j → digits k n ≡ digits j n
-unfolding digits pickList
+unfolding digits _if_else_
 enough zero zero n h g = refl
 enough zero (suc j) n h g = rw (lt-ltb n 10 (omega arith))
 enough (suc k) zero n h g = rw (lt-ltb n 10 (omega arith))
@@ -27,13 +28,13 @@ below (suc n) = omega (arith, below n)
 
 -- a number below 10 is one digit
 pub dec-small : (n : ℕ) → n < 10 → dec n ≡ (48 + n) ∷ []
-unfolding dec digits pickList
+unfolding dec digits _if_else_
 dec-small zero h = refl
 dec-small (suc n) h = rw (lt-ltb (suc n) 10 h)
 
 -- any other is a tenth of it and then the last digit
 pub dec-more : (n : ℕ) → 10 ≤ n → dec n ≡ dec (n / 10) ++ ((48 + n % 10) ∷ [])
-unfolding dec digits pickList
+unfolding dec digits _if_else_
 dec-more zero h = absurd (omega arith)
 dec-more (suc n) h = rw (le-ltb (suc n) 10 h, enough n (suc n / 10) (suc n / 10) (omega (arith, below (suc n))) (below (suc n / 10)))
 
@@ -43,7 +44,7 @@ unfolding dec
 dec-in k n h = enough n k n (below n) h
 
 digits-length : (k n : ℕ) → length (digits k n) ≤ suc k
-unfolding digits pickList
+unfolding digits _if_else_
 digits-length zero n = omega arith
 digits-length (suc k) n =
     ⊎-elim
@@ -70,13 +71,13 @@ unfolding dec digits
 dec-0 = refl
 
 dec-7 : dec 7 ≡ 55 ∷ []
-unfolding dec digits pickList
+unfolding dec digits _if_else_
 dec-7 = refl
 
 dec-10 : dec 10 ≡ 49 ∷ 48 ∷ []
-unfolding dec digits pickList
+unfolding dec digits _if_else_
 dec-10 = refl
 
 dec-cap : dec 1073741823 ≡ 49 ∷ 48 ∷ 55 ∷ 51 ∷ 55 ∷ 52 ∷ 49 ∷ 56 ∷ 50 ∷ 51 ∷ []
-unfolding digits pickList
+unfolding digits _if_else_
 dec-cap = dec-in 9 1073741823 (omega arith)

@@ -11,7 +11,7 @@ use lib.ListN.{length, getD, take, drop, set, length-set}
 use lib.Seq.{take-length, paste, paste-zero, paste-suc, length-paste, take-paste, drop-paste}
 use Rattle.words.proofs.Numbers.{le-or-lt}
 use Rattle.words.specs.First.{_if_else_}
-use Rattle.text.specs.Text.{pickList, written, after}
+use Rattle.text.specs.Text.{written, after}
 
 module _ (out : List ℕ) (at : ℕ) (s : List ℕ) where
   -- what does not fit changes nothing
@@ -21,7 +21,7 @@ module _ (out : List ℕ) (at : ℕ) (s : List ℕ) where
     after-full = rw (lt-leb (at + length s) (length out) h)
 
     pub written-full : written out at s ≡ out
-    unfolding written pickList
+    unfolding written _if_else_
     written-full = rw (lt-leb (at + length s) (length out) h)
 
     pub put-full : (at ≡ after (length out) at s) × (out ≡ written out at s)
@@ -33,7 +33,7 @@ module _ (out : List ℕ) (at : ℕ) (s : List ℕ) where
     after-put = rw (le-leb (at + length s) (length out) h)
 
     pub written-put : written out at s ≡ paste out at s (length s)
-    unfolding written pickList
+    unfolding written _if_else_
     written-put = rw (le-leb (at + length s) (length out) h, take-length s)
 
     -- what stands in front of the new place, and behind it

@@ -8,6 +8,7 @@ use denote.Ref.{RefT}
 use lib.Dec.{ltb}
 use lib.ListN.{length, getD, set, replicate, take, drop}
 use borrow.Author.Tests.{le-ltb}
+use Rattle.words.specs.First.{refuse}
 use Rattle.words.specs.Part.{RecordsOf}
 use Rattle.words.proofs.Parts.{length-part, records-in, run-in}
 use Rattle.words.proofs.Rows.{miss}
@@ -19,7 +20,7 @@ use Rattle.ancestry.specs.Counts.{keyOf, countsOf, lowestBelow}
 use Rattle.ancestry.proofs.Counts.{counts-none}
 use Rattle.ancestry.proofs.Scans.{Sofar, sofar-begins, sofar-next, sofar-stops, sofar-ends, highest-adds, lowest-begins, lowest-adds, counts-adds, counts-small}
 use Rattle.fit.proofs.Fitting.{run-within}
-use Rattle.commit.specs.Commits.{commitOf, commitIn, rowRule, refuseCommit}
+use Rattle.commit.specs.Commits.{commitOf, commitIn, rowRule}
 use Rattle.steps.specs.Walks.{endOf, countOf}
 use Rattle.commit.specs.declared.Commit.{Commit}
 use Rattle.steps.specs.declared.Counted.{Counted}
@@ -49,7 +50,7 @@ module _ {q : Parts} {n : ℕ} (i : ℕ) (o : Holds q n) (l : i < n) where
 
   -- the commit is there
   pub row-is : commitIn (q .width) (q .rows) i ≡ Is (commitOf (q .rows) (i * (q .width + 16) + q .width))
-  unfolding commitIn rowRule refuseCommit
+  unfolding commitIn rowRule refuse
   row-is =
       let z : rowRule (q .width) (length (q .rows)) i ≡ 0 =
       sym (miss 40 _ _ 0 (ap not (o .known)) (miss 40 _ 0 0 (le-ltb (length (q .rows)) _ rows-room) refl)) in

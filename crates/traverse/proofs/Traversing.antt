@@ -1,5 +1,5 @@
 -- One file from its list to its verdict: the ways through each stage.
-use Prim.Native.Nat.{ℕ, zero, suc, _≤_, _<_}
+use Prim.Native.Nat.{ℕ, _≤_, _<_}
 use mathlib.Core.List.{List}
 use mathlib.Core.Bool.{Bool, true, false}
 use mathlib.Core.Path.{_≡_, refl, sym, ap, ap₂, _∙_}
@@ -9,19 +9,17 @@ use lib.ListN.{length}
 use borrow.Author.Tests.{lt-ltb, le-ltb, ne-eqb}
 use Rattle.types.specs.Refusals.{refusal}
 use Rattle.types.specs.declared.refusal.Refusal.{Refusal}
-use Rattle.words.specs.First.{_if_else_}
-use Rattle.words.proofs.Rows.{hit, miss, eq-not, ne-not}
+use Rattle.words.specs.First.{_if_else_, refuse}
+use Rattle.words.proofs.Rows.{hit, miss, eq-not, ne-not, refuse-some, refuse-none}
 use Rattle.list.specs.List.{listRule, listPlace}
-use Rattle.fit.specs.Fits.{known}
 use Rattle.fit.specs.Facts.{Opened}
 use Rattle.file.specs.Table.{opening}
 use Rattle.file.specs.declared.File.{File}
 use Rattle.file.specs.declared.Opening.{Opening}
 use Rattle.file.specs.declared.Opening.the-variants.{Open, Refused}
 use Rattle.fit.proofs.Opens.{opened}
-use Rattle.fit.proofs.Fitting.{fitted}
 use Rattle.rules.specs.Rules.{sumRule, nameRule, sumIn, nameIn}
-use Rattle.traverse.specs.Traversal.{partsOf, summaryOf, refusedBy, refuse, traverseBy, oneRule, onePlace, traversal}
+use Rattle.traverse.specs.Traversal.{partsOf, summaryOf, refusedBy, traverseBy, oneRule, onePlace, traversal, notPassed}
 use Rattle.traverse.specs.Scans.{ScannedAs}
 use Rattle.traverse.specs.declared.commits.Scanned.{Scanned}
 use Rattle.traverse.specs.declared.Verdict.the-variants.{Accepted}
@@ -66,15 +64,8 @@ module _ (z n : ℕ) (l : List ℕ) where
 
 -- ── the stages ──
 
-refuse-hit : (n p : ℕ) (rest : Traversal) → 0 < n → refusedBy (refusal n p) ≡ refuse n p rest
-unfolding refuse
-refuse-hit zero p rest h = let z : ⊥ = omega arith in absurd z
-refuse-hit (suc n) p rest h = refl
-
-refuse-miss : (n p : ℕ) (rest : Traversal) → n ≤ 0 → rest ≡ refuse n p rest
-unfolding refuse
-refuse-miss zero p rest h = refl
-refuse-miss (suc n) p rest h = let z : ⊥ = omega arith in absurd z
+refuse-miss : (n p : ℕ) (rest : Traversal) → n ≤ 0 → rest ≡ refuse n (notPassed p) rest
+refuse-miss n p rest h = sym (refuse-none (notPassed p) rest (omega arith))
 
 -- a is what the trailer met, b the name
 module _ (z : ℕ) (c l : List ℕ) {f : File} (o : opening c ≡ Open f) where
@@ -90,7 +81,7 @@ module _ (z : ℕ) (c l : List ℕ) {f : File} (o : opening c ≡ Open f) where
 
     pub file-sum : 0 < a → refusedBy (refusal a 0) ≡ traverseBy z c l (Open f)
     unfolding traverseBy
-    file-sum h = rw sum-is (refuse-hit a 0 _ h)
+    file-sum h = rw sum-is (refuse-some a (notPassed 0) _ h)
 
     module _ (h : a ≤ 0) {b : ℕ} (d : b ≡ nameIn (f .width) z l 0 c) where
       name-is : nameRule (f .width) z l 0 c ≡ b
@@ -98,7 +89,7 @@ module _ (z : ℕ) (c l : List ℕ) {f : File} (o : opening c ≡ Open f) where
 
       pub file-name : 0 < b → refusedBy (refusal b 0) ≡ traverseBy z c l (Open f)
       unfolding traverseBy
-      file-name g = rw (sum-is, name-is) (refuse-hit b 0 _ g ∙ refuse-miss a 0 _ h)
+      file-name g = rw (sum-is, name-is) (refuse-some b (notPassed 0) _ g ∙ refuse-miss a 0 _ h)
 
       -- r is how the commits went
       module _ (g : b ≤ 0) {r : Scanned} (s : ScannedAs (partsOf c f) (f .commits) r) where
@@ -106,7 +97,7 @@ module _ (z : ℕ) (c l : List ℕ) {f : File} (o : opening c ≡ Open f) where
         unfolding traverseBy
         file-commit k =
             rw (sum-is, name-is, ← s .number, ← s .place)
-            (refuse-hit (r .number) (r .place) _ k ∙ refuse-miss b 0 _ g ∙ refuse-miss a 0 _ h)
+            (refuse-some (r .number) (notPassed (r .place)) _ k ∙ refuse-miss b 0 _ g ∙ refuse-miss a 0 _ h)
 
         pub file-fine : r .number ≤ 0
             → record {
@@ -126,7 +117,7 @@ module _ (z : ℕ) (c l : List ℕ) {m : Refusal} (e : m ≡ refusal (oneRule z 
 
   pub traversal-list : 0 < m .number → refusedBy m ≡ traversal z c l
   unfolding traversal
-  traversal-list h = ap refusedBy e ∙ refuse-hit _ _ _ (omega (arith, list-number))
+  traversal-list h = ap refusedBy e ∙ refuse-some _ (notPassed _) _ (omega (arith, list-number))
 
   module _ (h : m .number ≤ 0) {x : Opening} (d : x ≡ opening c) where
     past : traverseBy z c l (opening c) ≡ traversal z c l

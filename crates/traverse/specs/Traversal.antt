@@ -1,12 +1,12 @@
 -- One-file traversal: document 01, "One-file traversal". p is the file's bytes and f its record; c is the chain's bytes, l the list's, z the size of a record.
-use Prim.Native.Nat.{ℕ, zero, suc, _+_, _*_}
+use Prim.Native.Nat.{ℕ, _+_, _*_}
 use mathlib.Core.List.{List}
 use mathlib.Core.Bool.{Bool, not}
 use lib.ListN.{length, replicate}
 use lib.Dec.{ltb, eqb}
 use Rattle.types.specs.Refusals.{refusal}
 use Rattle.types.specs.declared.refusal.Refusal.{Refusal}
-use Rattle.words.specs.First.{_if_else_, first}
+use Rattle.words.specs.First.{_if_else_, first, refuse}
 use Rattle.ancestry.specs.Graph.{highestBelow}
 use Rattle.ancestry.specs.Counts.{keyOf, countsOf, lowestBelow}
 use Rattle.list.specs.List.{listRule, listPlace}
@@ -76,17 +76,16 @@ module _ (q : Parts) where
 abbrev pub refusedBy : Refusal → Traversal
 refusedBy r = record { verdict = Not r; counts = replicate 66 0 }
 
-unfoldable pub refuse : ℕ → ℕ → Traversal → Traversal
-refuse zero place rest = rest
-refuse (suc n) place rest = refusedBy (refusal (suc n) place)
+abbrev pub notPassed : ℕ → ℕ → Traversal
+notPassed place n = refusedBy (refusal n place)
 
 -- 62, 63, then each commit
 unfoldable pub traverseBy : ℕ → List ℕ → List ℕ → Opening → Traversal
 traverseBy z c l (Refused r) = refusedBy r
 traverseBy z c l (Open f) =
-    refuse (sumRule (f .width) c) 0
-    (refuse (nameRule (f .width) z l 0 c) 0
-    (refuse (commitRules (partsOf c f) (f .commits)) (badCommit (partsOf c f) (f .commits))
+    refuse (sumRule (f .width) c) (notPassed 0)
+    (refuse (nameRule (f .width) z l 0 c) (notPassed 0)
+    (refuse (commitRules (partsOf c f) (f .commits)) (notPassed (badCommit (partsOf c f) (f .commits)))
     (record { verdict = Accepted (summaryOf (partsOf c f) (f .commits)); counts = countsOf (keyIn (partsOf c f)) (f .commits) })))
 
 -- the list: 30 where it has not one record
@@ -100,4 +99,4 @@ unfoldable pub onePlace : ℕ → ℕ → List ℕ → ℕ
 onePlace z n l = listPlace z n l if eqb (oneRule z n l) 31 else 0
 
 unfoldable pub traversal : ℕ → List ℕ → List ℕ → Traversal
-traversal z c l = refuse (oneRule z (length c) l) (onePlace z (length c) l) (traverseBy z c l (opening c))
+traversal z c l = refuse (oneRule z (length c) l) (notPassed (onePlace z (length c) l)) (traverseBy z c l (opening c))

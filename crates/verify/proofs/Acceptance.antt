@@ -11,8 +11,8 @@ use lib.Dec.{ltb, lit<}
 use lib.ListN.{length}
 use borrow.Author.Tests.{le-ltb, lt-leb, ltb-true, ltb-false, leb-false, eqb-true, not-false}
 use Rattle.types.specs.declared.refusal.Refusal.{Refusal}
-use Rattle.words.specs.First.{_if_else_, first}
-use Rattle.words.proofs.Rows.{miss, pass, eq-not}
+use Rattle.words.specs.First.{_if_else_, first, refuse}
+use Rattle.words.proofs.Rows.{miss, pass, eq-not, refuse-none}
 use Rattle.words.proofs.Searches.{first-hit, first-none}
 use Rattle.list.specs.List.{recordsOf}
 use Rattle.file.specs.declared.File.{File}
@@ -27,8 +27,7 @@ use Rattle.graph.proofs.Passing.{Along, along-begins, along-refused, along-next
 use Rattle.graph.proofs.Views.{numbers, opened-halves, opened-listed}
 use Rattle.walk.specs.Lists.{walkIn}
 use Rattle.audit.specs.Files.{basesIn, baseIn, genIn, entryAt, genAt}
-use Rattle.audit.specs.Rules.{walkRule, alien, badBase, baseRule, headRule, genRule, commitRule, bad, badCommit, commitRules, refuse, pickVerified, accepted, refusedBy, verifyFrom, verification}
-use Rattle.audit.proofs.Filing.{refuse-none}
+use Rattle.audit.specs.Rules.{walkRule, alien, badBase, baseRule, headRule, genRule, commitRule, bad, badCommit, commitRules, accepted, refusedBy, verifyFrom, verification, notSound}
 use Rattle.verify.specs.Facts.{SoundCommit, SoundFile, Sound}
 use Rattle.audit.specs.declared.Summary.{Summary}
 use Rattle.audit.specs.declared.Verdict.the-variants.{Accepted, Refused}
@@ -83,7 +82,7 @@ walk-whole limit (parent x w) e f =
 
 -- ── a refusal, or what comes after ──
 
-refuse-accepted : (n i place : ℕ) (rest : Verification) {s : Summary} → refuse n i place rest .verdict ≡ Accepted s
+refuse-accepted : (n i place : ℕ) (rest : Verification) {s : Summary} → refuse n (notSound i place) rest .verdict ≡ Accepted s
     → (n ≡ 0) × (rest .verdict ≡ Accepted s)
 unfolding refuse
 refuse-accepted zero i place rest e = (refl, e)
@@ -209,14 +208,14 @@ module _ (z : ℕ) (c l : List ℕ) where
   passed-files zero i f = refl
   passed-files (suc left) i f =
       let p = f i (omega arith) (omega arith) in
-      refuse-none _ _ _ (p .0) ∙ refuse-none _ _ _ (p .1) ∙ passed-files left (i + 1) (λ j a b. f j (omega arith) (omega arith))
+      refuse-none _ _ (p .0) ∙ refuse-none _ _ (p .1) ∙ passed-files left (i + 1) (λ j a b. f j (omega arith) (omega arith))
 
   pub sound-of : {s : Summary} → verification z c l .verdict ≡ Accepted s → Sound z c l
-  unfolding verification pickVerified
+  unfolding verification _if_else_
   sound-of {s} = go _ refl
     where
       go : (t : Bool) → ltb 0 (opened z c l .number) ≡ t
-          → pickVerified t (refusedBy (opened z c l)) (verifyFrom z c l (recordsOf z l) 0) .verdict ≡ Accepted s → Sound z c l
+          → (refusedBy (opened z c l) if t else verifyFrom z c l (recordsOf z l) 0) .verdict ≡ Accepted s → Sound z c l
       go true q e = let y : _≡_ {A = ℕ} 0 1 = cc in absurd (omega arith)
       go false q e =
           record {
@@ -225,7 +224,7 @@ module _ (z : ℕ) (c l : List ℕ) where
           }
 
   pub accepted-of : Sound z c l → verification z c l ≡ accepted z c l
-  unfolding verification pickVerified
+  unfolding verification _if_else_
   accepted-of s =
       rw (le-ltb 0 (opened z c l .number) (omega (arith, s .opens)))
       (passed-files (recordsOf z l) 0 (λ i a b.

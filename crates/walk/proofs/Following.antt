@@ -7,6 +7,7 @@ use mathlib.Core.Logic.{⊎-elim}
 use native.Mathlib.Omega.{arith}
 use lib.Dec.{ltb}
 use borrow.Author.Tests.{le-ltb, ltb-true}
+use Rattle.words.specs.First.{_if_else_}
 use Rattle.types.specs.declared.refusal.Refusal.{Refusal}
 use Rattle.words.proofs.Numbers.{le-or-lt}
 use Rattle.chunk.specs.Index.{absent}
@@ -30,7 +31,7 @@ use Rattle.steps.proofs.Walking.{followMet, rest-follow}
 use Rattle.parents.proofs.Walking.{step-plain, Told, step-told}
 use Rattle.graph.specs.Chain.{commitsOf, partAt, openAt, countAt, fileOf, posOf, asked}
 use Rattle.walk.specs.Lists.{walkIn, walkedAt}
-use Rattle.walk.specs.Walks.{answerIn, refused, stepBy, pickStep, stepOf}
+use Rattle.walk.specs.Walks.{answerIn, refused, stepBy, stepOf}
 use Rattle.walk.specs.Theorems.{Keeps, Follows, ends, stops, goes, Ends, restAt, walkAt, Lists}
 use Rattle.walk.specs.declared.Walk.{Walk}
 use Rattle.walk.specs.declared.Step.{Step}
@@ -55,7 +56,7 @@ module _ (z : ℕ) (c l : List ℕ) where
       → ((r : Refusal) → 0 < r .number → P (refused w r))
       → ((k i : ℕ) (f : File) → P (stepBy k (partAt z c l k) (Open f) i w))
       → P (stepOf z c l w)
-  unfolding stepOf pickStep stepBy openAt
+  unfolding stepOf _if_else_ stepBy openAt
   step-ways w P halts runs = go _ refl
     where
       k : ℕ
@@ -66,8 +67,7 @@ module _ (z : ℕ) (c l : List ℕ) where
       in-file (Refused r) e = halts r (refused-named true (partAt z c l k) e)
 
       go : (t : Bool) → ltb 0 (asked z c l (w .commit .0) .number) ≡ t
-          → P (pickStep t (refused w (asked z c l (w .commit .0)))
-          (stepBy k (partAt z c l k) (openAt z c l k) (posOf z c l (w .commit .0)) w))
+          → P (refused w (asked z c l (w .commit .0)) if t else stepBy k (partAt z c l k) (openAt z c l k) (posOf z c l (w .commit .0)) w)
       go true e = halts _ (ltb-true 0 _ e)
       go false e = in-file (openAt z c l k) refl
 
@@ -133,7 +133,7 @@ module _ (z : ℕ) (c l : List ℕ) where
 
     step-is : (s : Phase) → stepOf z c l (walkAt g s)
         ≡ (record { answer = answerIn k (answerOf i (next s .met)); next = walkAt g (next s .phase) })
-    unfolding stepOf pickStep stepBy next
+    unfolding stepOf _if_else_ stepBy next
     step-is s =
         rw (le-ltb 0 (asked z c l g .number) (omega arith), o, ← step-plain _ f i s plain)
 

@@ -6,11 +6,12 @@ use native.Mathlib.Omega.{arith}
 use lib.ListN.{length}
 use denote.Ref.{RefT}
 use borrow.Author.Tests.{lt-ltb, le-ltb}
+use Rattle.words.specs.First.{_if_else_}
 use Rattle.types.specs.declared.refusal.Refusal.{Refusal}
 use Rattle.words.specs.Part.{RecordsOf}
 use Rattle.steps.specs.Walks.{positions}
 use Rattle.parents.specs.Walks.{walkOf}
-use Rattle.parents.specs.Lists.{pickTotal, heldBy, listOf as fileList, heldOf as fileHeld}
+use Rattle.parents.specs.Lists.{heldBy, listOf as fileList, heldOf as fileHeld}
 use Rattle.parents.specs.declared.Total.{Total}
 use Rattle.parents.specs.declared.Total.the-variants.{Count as Whole, Refused as Short}
 use Rattle.graph.specs.Chain.{asked}
@@ -32,7 +33,7 @@ held-in k (Short r) ps xs = refl
 module _ (z : ℕ) (c : RefT (List ℕ)) (l : List ℕ) (g : ℕ) (xs : List ℕ) where
   pub list-refused : {q : Refusal} → located z (c .now) l g ≡ Nowhere q
       → (Short q ≡ listOf z (c .now) l g (length xs)) × (xs ≡ heldOf z (c .now) l g xs)
-  unfolding heldOf listOf pickTotal heldBy
+  unfolding heldOf listOf _if_else_ heldBy
   list-refused {q} e =
       let u = unspotted z (c .now) l g e in
       let y = lt-ltb 0 (asked z (c .now) l g .number) (omega (arith, numbers (u .0), u .1)) in
@@ -47,7 +48,7 @@ module _ (z : ℕ) (c : RefT (List ℕ)) (l : List ℕ) (g : ℕ) (xs : List ℕ
     cut = file-cut c spot k
 
     told : listOf z (c .now) l g (length xs) ≡ totalIn (r .file) (fileList (s .now) (r .inner) (r .pos .0) (length xs))
-    unfolding listOf pickTotal listBy
+    unfolding listOf _if_else_ listBy
     told = rw (le-ltb 0 (asked z (c .now) l g .number) (omega (arith, spot .fine)), spot .file, spot .pos, spot .opens, cut .bytes)
 
     named : parentsAt z (c .now) l g ≡ positions (walkOf (s .now) (r .inner) (r .pos .0))

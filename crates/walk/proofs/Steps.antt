@@ -5,6 +5,7 @@ use mathlib.Core.Path.{_≡_, ap}
 use native.Mathlib.Omega.{arith}
 use denote.Ref.{RefT}
 use borrow.Author.Tests.{lt-ltb, le-ltb}
+use Rattle.words.specs.First.{_if_else_}
 use Rattle.types.specs.declared.refusal.Refusal.{Refusal}
 use Rattle.words.specs.Part.{RecordsOf}
 use Rattle.parents.specs.Walks.{stepOf as fileStep}
@@ -16,14 +17,14 @@ use Rattle.graph.specs.declared.locate.Located.the-variants.{At, Refused as Now
 use Rattle.graph.specs.declared.locate.Spot.{Spot}
 use Rattle.graph.proofs.Spots.{spotted, unspotted, file-cut}
 use Rattle.graph.proofs.Views.{numbers}
-use Rattle.walk.specs.Walks.{answerIn, refused, stepBy, pickStep, stepOf}
+use Rattle.walk.specs.Walks.{answerIn, refused, stepBy, stepOf}
 use Rattle.walk.specs.declared.Walk.{Walk}
 use Rattle.walk.specs.declared.Step.{Step}
 
 -- q is what the question for the walk's commit met
 pub step-refused : (z : ℕ) (c l : List ℕ) (w : Walk) {q : Refusal} → q ≡ asked z c l (w .commit .0) → 0 < q .number
     → refused w q ≡ stepOf z c l w
-unfolding stepOf pickStep
+unfolding stepOf _if_else_
 step-refused z c l w e h = rw (lt-ltb 0 (asked z c l (w .commit .0) .number) (omega (arith, numbers e))) (ap (refused w) e)
 
 module _ (z : ℕ) (c : RefT (List ℕ)) (l : List ℕ) (w : Walk) where
@@ -34,7 +35,7 @@ module _ (z : ℕ) (c : RefT (List ℕ)) (l : List ℕ) (w : Walk) where
   pub step-in : {r : Spot} → located z (c .now) l (w .commit .0) ≡ At r → {s : RefT (List ℕ)} → RecordsOf c (r .start) (r .size) 1 s
       → {x : FileStep} → x ≡ fileStep (s .now) (r .inner) (r .pos .0) (w .phase) → {a : Answer} → a ≡ answerIn (r .file) (x .answer)
       → _≡_ {A = Step} (record { answer = a; next = record { commit = w .commit; phase = x .next } }) (stepOf z (c .now) l w)
-  unfolding stepOf pickStep stepBy
+  unfolding stepOf _if_else_ stepBy
   step-in {r} e {s} k q d =
       let h = spotted z (c .now) l (w .commit .0) e in
       let f = file-cut c h k in

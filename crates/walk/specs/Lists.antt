@@ -3,11 +3,12 @@ use Prim.Native.Nat.{ℕ}
 use mathlib.Core.List.{List}
 use lib.Dec.{ltb}
 use lib.ListN.{length}
+use Rattle.words.specs.First.{_if_else_}
 use Rattle.file.specs.declared.Opening.{Opening}
 use Rattle.file.specs.declared.Opening.the-variants.{Open, Refused}
 use Rattle.steps.specs.Walks.{Walked, ends, positions}
 use Rattle.parents.specs.Walks.{walkOf}
-use Rattle.parents.specs.Lists.{pickTotal, heldBy, listOf as fileList}
+use Rattle.parents.specs.Lists.{heldBy, listOf as fileList}
 use Rattle.parents.specs.declared.Total.{Total}
 use Rattle.parents.specs.declared.Total.the-variants.{Count as Whole, Refused as Short}
 use Rattle.graph.specs.Chain.{placed, partAt, openAt, fileOf, posOf, asked}
@@ -37,8 +38,8 @@ module _ (z : ℕ) (c l : List ℕ) (g : ℕ) where
   -- the answer for a list of m entries, and what the list xs holds after it
   unfoldable pub listOf : ℕ → Total
   listOf m =
-      pickTotal (ltb 0 (asked z c l g .number)) (Short (asked z c l g))
-      (listBy (fileOf z c l g) (partAt z c l (fileOf z c l g)) (openAt z c l (fileOf z c l g)) (posOf z c l g) m)
+      Short (asked z c l g) if ltb 0 (asked z c l g .number) else
+      listBy (fileOf z c l g) (partAt z c l (fileOf z c l g)) (openAt z c l (fileOf z c l g)) (posOf z c l g) m
 
   unfoldable pub heldOf : List ℕ → List ℕ
   heldOf xs = heldBy (listOf (length xs)) parentsAt xs

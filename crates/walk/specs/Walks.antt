@@ -1,8 +1,8 @@
 -- The parent step on a chain: the opening, then 40, then the state; 50 to 54 carry the commit's file and its position there.
 use Prim.Native.Nat.{ℕ}
 use mathlib.Core.List.{List}
-use mathlib.Core.Bool.{Bool, true, false}
 use lib.Dec.{ltb}
+use Rattle.words.specs.First.{_if_else_}
 use Rattle.types.specs.declared.refusal.Refusal.{Refusal}
 use Rattle.file.specs.declared.Opening.{Opening}
 use Rattle.file.specs.declared.Opening.the-variants.{Open, Refused}
@@ -10,7 +10,6 @@ use Rattle.parents.specs.Walks.{stepOf as fileStep}
 use Rattle.parents.specs.declared.Step.{Step as FileStep}
 use Rattle.parents.specs.declared.Answer.{Answer}
 use Rattle.parents.specs.declared.Answer.the-variants.{Parent, Refused as Not, End}
-use Rattle.steps.specs.declared.Phase.{Phase}
 use Rattle.steps.specs.declared.Phase.the-variants.{Exhausted}
 use Rattle.graph.specs.Chain.{placed, partAt, openAt, fileOf, posOf, asked}
 use Rattle.walk.specs.declared.Walk.{Walk}
@@ -32,12 +31,8 @@ unfoldable pub stepBy : ℕ → List ℕ → Opening → ℕ → Walk → Step
 stepBy k p (Open f) i w = stepIn k w (fileStep p f i (w .phase))
 stepBy k p (Refused r) i w = refused w r
 
-unfoldable pub pickStep : Bool → Step → Step → Step
-pickStep true a b = a
-pickStep false a b = b
-
 unfoldable pub stepOf : ℕ → List ℕ → List ℕ → Walk → Step
 stepOf z c l w =
-    pickStep (ltb 0 (asked z c l (w .commit .0) .number)) (refused w (asked z c l (w .commit .0)))
-    (stepBy (fileOf z c l (w .commit .0)) (partAt z c l (fileOf z c l (w .commit .0))) (openAt z c l (fileOf z c l (w .commit .0)))
-    (posOf z c l (w .commit .0)) w)
+    refused w (asked z c l (w .commit .0)) if ltb 0 (asked z c l (w .commit .0) .number) else
+    stepBy (fileOf z c l (w .commit .0)) (partAt z c l (fileOf z c l (w .commit .0))) (openAt z c l (fileOf z c l (w .commit .0)))
+    (posOf z c l (w .commit .0)) w

@@ -8,7 +8,7 @@ use Rattle.chunk.specs.Index.{indexRule}
 use Rattle.chunk.proofs.Sound.{indexed}
 use Rattle.file.specs.Table.{bases, chunked, openingBy}
 use Rattle.file.specs.declared.rules.Index.{Index}
-use Rattle.file.proofs.Stages.{stages, refuse-no, refuse-none, refuse-as, Headed, headed, width-wide}
+use Rattle.file.proofs.Stages.{stages, stage-no, stage-none, stage-as, Headed, headed, width-wide}
 use borrow.Author.Needs.{needs}
 use Rattle.file.proofs.init.open_by.Statement.{statement}
 use Rattle.file.proofs.init.open_by.Tie as tie
@@ -30,8 +30,8 @@ returns-2 : tie.Need-returns-2
 unfolding openingBy
 returns-2 c =
     let at-if1 = c .before .before .before in
-    refuse-no _ _ _ _ _ (at-if1 .before .head .ensures) (at-if1 .if1 .left)
-    (refuse-as _ _ _ (c .before .before .check .ensures) (c .if2 .taken))
+    stage-no _ _ _ _ _ (at-if1 .before .head .ensures) (at-if1 .if1 .left)
+    (stage-as _ _ _ (c .before .before .check .ensures) (c .if2 .taken))
 
 shared-slice-read-chunks-open : tie.Need-shared-slice-read-chunks-open
 shared-slice-read-chunks-open c =
@@ -52,8 +52,8 @@ returns-3 c =
     let at-if1 = at-locate .before .before .before .before in
     let a = at-if1 .before .before .before .args in
     let l = now (a .s) in
-    refuse-no _ _ _ _ _ (at-if1 .before .head .ensures) (at-if1 .if1 .left)
-    (refuse-none _ _ _ _ (sym (none (at-locate .before)))
+    stage-no _ _ _ _ _ (at-if1 .before .head .ensures) (at-if1 .if1 .left)
+    (stage-none _ _ _ _ (sym (none (at-locate .before)))
     (c .chunks-open .ensures
     ∙ ap₂ (λ (w : ℕ) (x : Index). chunked (a .tried) w (bases l) l x) (c .before .before .width-of .ensures) (at-locate .locate .ensures)))
 

@@ -1,23 +1,24 @@
 -- `flat::walks::phase_of` meets its contract.
 use borrow.Author.Tests.{eq-eqb, ne-eqb}
-use Rattle.flat.specs.Images.{phaseOf, pickPhase}
+use Rattle.words.specs.First.{_if_else_}
+use Rattle.flat.specs.Images.{phaseOf}
 use Rattle.flat.proofs.walks.phase_of.Statement.{statement}
 use Rattle.flat.proofs.walks.phase_of.Tie as tie
 
 returns : tie.Need-returns
-unfolding phaseOf pickPhase
+unfolding phaseOf _if_else_
 returns c = rw (eq-eqb _ 0 (c .if1 .taken))
 
 returns-2 : tie.Need-returns-2
-unfolding phaseOf pickPhase
+unfolding phaseOf _if_else_
 returns-2 c = rw (ne-eqb _ 0 (c .before .if1 .left), eq-eqb _ 1 (c .if2 .taken))
 
 returns-3 : tie.Need-returns-3
-unfolding phaseOf pickPhase
+unfolding phaseOf _if_else_
 returns-3 c = rw (ne-eqb _ 0 (c .before .before .if1 .left), ne-eqb _ 1 (c .before .if2 .left), eq-eqb _ 2 (c .if3 .taken))
 
 returns-4 : tie.Need-returns-4
-unfolding phaseOf pickPhase
+unfolding phaseOf _if_else_
 returns-4 c = rw (ne-eqb _ 0 (c .before .before .if1 .left), ne-eqb _ 1 (c .before .if2 .left), ne-eqb _ 2 (c .if3 .left))
 
 pub phase-of-spec : {M : Type 1} → statement M
