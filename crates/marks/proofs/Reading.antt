@@ -35,7 +35,7 @@ use Rattle.steps.proofs.Walking.{edge-there}
 use Rattle.marks.specs.Marks.{fieldAt, edgeAt, secondAt, placeOf}
 
 -- two cases that differ are never one
-no : _≡_ {A = ℕ} 0 1 → ⊥
+pub no : _≡_ {A = ℕ} 0 1 → ⊥
 no e = omega arith
 
 -- what a word says of the parent that it gives
@@ -46,8 +46,8 @@ edge-said x {p} e = go (eqb x 0x70000000) (leb 0x80000000 x) refl e
     go : (t u : Bool) → leb 0x80000000 x ≡ u
         → (None if t else ExtraEdgeIndex (x - 0x80000000) if u else GraphPosition (record { 0 = x })) ≡ GraphPosition p
         → p .0 ≡ x % 0x80000000
-    go true u d e = absurd (no (cc))
-    go false true d e = absurd (no (cc))
+    go true u d e = cc
+    go false true d e = cc
     go false false d e =
         let z : _≡_ {A = Position} (record { 0 = x }) p = cc in
         let y : x ≡ p .0 = ap (λ (q : Position). q .0) z in
@@ -84,13 +84,13 @@ edge-met t e k {q} b = go (edgeRule t e k) refl
 refuse-met : (m : ℕ) (x : Step) {q : Ancestor} → refuse m refusedStep x .answer ≡ Told q → (m ≡ 0) × (x .answer ≡ Told q)
 unfolding refuse
 refuse-met zero x e = (refl, e)
-refuse-met (suc m) x e = let z : _≡_ {A = ℕ} 0 1 = cc in absurd (omega arith)
+refuse-met (suc m) x e = (cc, cc)
 
 met-of : (i : ℕ) (m : Met) {q : Ancestor} → answerOf i m ≡ Told q → m ≡ Parent q
 unfolding answerOf
 met-of i (Parent p) e = cc
-met-of i (Refused n) e = absurd (no (cc))
-met-of i End e = absurd (no (cc))
+met-of i (Refused n) e = cc
+met-of i End e = cc
 
 abbrev nextAt : List ℕ → File → ℕ → Phase → Next
 nextAt l f i s = nextOf (rowOf l f i .first) (rowOf l f i .second) (not (absent (f .edge))) (edgePart l f) s

@@ -223,7 +223,7 @@ count-walk n (parent p w) = count-walk (n + 1) w ∙ ap (counted (endOf w)) (ome
 counted-all : (r n : ℕ) {m : ℕ} → counted r n ≡ Count m → (r ≡ 0) × (n ≡ m)
 unfolding counted
 counted-all zero n e = (refl, cc)
-counted-all (suc r) n e = let z : _≡_ {A = ℕ} 0 1 = cc in absurd (omega arith)
+counted-all (suc r) n e = (cc, cc)
 
 counted-short : (r n : ℕ) {m : ℕ} → counted r n ≡ Stopped m → (r ≡ m) × (0 < m)
 unfolding counted

@@ -96,13 +96,13 @@ module _ (z : ℕ) (c l : List ℕ) where
   -- two followings of one walk are the same
   pub follows-same : {w : Walk} {ps qs : List ℕ} {e d : ℕ} → Follows z c l w ps e → Follows z c l w qs d → (ps ≡ qs) × (e ≡ d)
   follows-same (ends a) (ends b) = (refl, refl)
-  follows-same (ends a) (stops b) = absurd (no (cc))
-  follows-same (ends a) (goes b y) = absurd (no (cc))
-  follows-same (stops a) (ends b) = absurd (no (cc))
+  follows-same (ends a) (stops b) = (cc, cc)
+  follows-same (ends a) (goes b y) = (cc, cc)
+  follows-same (stops a) (ends b) = (cc, cc)
   follows-same (stops a) (stops b) = (refl, cc)
-  follows-same (stops a) (goes b y) = absurd (no (cc))
-  follows-same (goes a x) (ends b) = absurd (no (cc))
-  follows-same (goes a x) (stops b) = absurd (no (cc))
+  follows-same (stops a) (goes b y) = (cc, cc)
+  follows-same (goes a x) (ends b) = (cc, cc)
+  follows-same (goes a x) (stops b) = (cc, cc)
   follows-same (goes a x) (goes b y) = let h = follows-same x y in (cc, h .1)
 
   module _ (g : ℕ) (a : asked z c l g .number ≡ 0) (f : File) (o : openAt z c l (fileOf z c l g) ≡ Open f) where
@@ -125,8 +125,7 @@ module _ (z : ℕ) (c l : List ℕ) where
     plain = asked-plain _ f (f .commits) i (opened-fits (file-opened true _ o)) below
 
     next : Phase → Next
-    next s =
-        nextOf (rowOf p f i .first) (rowOf p f i .second) (not (absent (f .edge))) (edgePart p f) s
+    next s = nextOf (rowOf p f i .first) (rowOf p f i .second) (not (absent (f .edge))) (edgePart p f) s
 
     left : Phase → Walked
     left s = restAt p f i s
@@ -134,8 +133,7 @@ module _ (z : ℕ) (c l : List ℕ) where
     step-is : (s : Phase) → stepOf z c l (walkAt g s)
         ≡ (record { answer = answerIn k (answerOf i (next s .met)); next = walkAt g (next s .phase) })
     unfolding stepOf _if_else_ stepBy next
-    step-is s =
-        rw (le-ltb 0 (asked z c l g .number) (omega arith), o, ← step-plain _ f i s plain)
+    step-is s = rw (le-ltb 0 (asked z c l g .number) (omega arith), o, ← step-plain _ f i s plain)
 
     answer-is : (s : Phase) {m : Met} → next s .met ≡ m
         → stepOf z c l (walkAt g s) .answer ≡ answerIn k (answerOf i m)

@@ -26,12 +26,4 @@ returns-2 : tie.Need-returns-2
 returns-2 c = ap (λ (n : ℕ). At (run n 8)) (c .field .ensures) ∙ date-in _ _ _ (c .before .before .ask .ensures) (c .before .if1 .left)
 
 pub date-at-spec : {M : Type 1} → statement M
-date-at-spec =
-    tie.close
-    (tie.spec
-    (search needs)
-    (search needs)
-    returns
-    field-requires
-    add-end
-    returns-2)
+date-at-spec = tie.close (tie.spec (search needs) (search needs) returns field-requires add-end returns-2)

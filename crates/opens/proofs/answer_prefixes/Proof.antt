@@ -1,4 +1,4 @@
--- `opens::answer_prefixes` meets its contract.
+-- `opens::answer_prefixes` meets its contract. The invariant: n is at most one past the length. The measure: the lengths left.
 use Prim.Native.Nat.{_≤_, _+_, _-_}
 use borrow.Author.Needs.{needs}
 use native.Mathlib.Omega.{arith}

@@ -12,8 +12,4 @@ returns c =
     rw (mul-one, c .before .size .ensures, c .before .before .start .ensures) at p
 
 pub edge-spec : {M : Type 1} → statement M
-edge-spec = tie.close (tie.spec
-    (search needs)
-    (search needs)
-    (search needs)
-    returns)
+edge-spec = tie.close (tie.spec (search needs) (search needs) (search needs) returns)

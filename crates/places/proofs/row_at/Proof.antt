@@ -1,4 +1,4 @@
--- `places::row_at` meets its contract.
+-- `places::row_at` meets its contract: a question that the rule passes has its row in the bytes (`room`), so that no number wraps.
 use native.Mathlib.Omega.{arith}
 use Rattle.places.proofs.Placing.{part-refused, part-fine, row-fits}
 use borrow.Author.Needs.{needs}

@@ -10,6 +10,4 @@ returns-2 : tie.Need-returns-2
 returns-2 c = extra-more _ (c .if1 .left)
 
 pub extra-edge-spec : {M : Type 1} → statement M
-extra-edge-spec = tie.close (tie.spec
-    returns
-    returns-2)
+extra-edge-spec = tie.close (tie.spec returns returns-2)

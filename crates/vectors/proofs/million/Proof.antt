@@ -1,4 +1,5 @@
 -- `vectors::million` meets its contract.
+-- The invariant: n is 1 to 131, so that a piece lies in `a` and is not empty. The measure: `left`, which each piece lowers.
 use Prim.Native.Nat.{_≤_}
 use native.Mathlib.Omega.{arith}
 use borrow.Author.Needs.{needs}
@@ -24,12 +25,12 @@ million-spec =
     (search needs)
     (search needs)
     (search needs)
-    (λ c. omega arith)
+    (search needs)
     slice-aggregate-update
     (search needs)
-    (λ c. omega arith)
-    (λ c. omega arith)
-    (λ c. omega arith)
-    (λ c. omega arith)
+    (search needs)
+    (search needs)
+    (search needs)
+    (search needs)
     (search needs)
     (search needs))

@@ -1,4 +1,4 @@
--- `vectors::pattern` meets its contract.
+-- `vectors::pattern` meets its contract. The invariant: i ≤ 200, and p keeps its 200 bytes. The measure: the bytes left.
 use Prim.Native.Nat.{_≤_, _-_}
 use mathlib.Core.Path.{_≡_}
 use native.Mathlib.Omega.{arith}
@@ -23,11 +23,11 @@ pattern-spec =
     Inv-loop
     μ-loop
     (search needs)
-    (λ c. omega arith)
-    (λ c. omega arith)
-    (λ c. omega arith)
-    (λ c. omega arith)
-    (λ c. omega arith)
-    (λ c. omega arith)
+    (search needs)
+    (search needs)
+    (search needs)
+    (search needs)
+    (search needs)
+    (search needs)
     loop-again
     (search needs))

@@ -1,4 +1,4 @@
--- `vectors::whole` meets its contract.
+-- `vectors::whole` meets its contract. The invariant: n ≤ 201. The measure: the lengths left. So each piece lies in the pattern.
 use Prim.Native.Nat.{_≤_, _-_}
 use native.Mathlib.Omega.{arith}
 use borrow.Author.Needs.{needs}

@@ -1,3 +1,4 @@
+-- `answers::lines::lines` meets its contract. The invariant: i ≤ n. The measure: the commits left.
 use Prim.Native.Nat.{_≤_, _-_}
 use borrow.Author.Needs.{needs}
 use Rattle.answers.proofs.lines.lines.Statement.{statement}

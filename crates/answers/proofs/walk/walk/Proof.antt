@@ -1,3 +1,4 @@
+-- `answers::walk::walk` meets its contract. The invariant: n is at most the bytes of the file. The measure: how many it is below them.
 use Prim.Native.Nat.{_≤_, _-_}
 use borrow.Author.Needs.{needs}
 use lib.ListN.{length}

@@ -1,4 +1,4 @@
--- `cases::print::hex` meets its contract.
+-- `cases::print::hex` meets its contract. The invariant: i ≤ the length. The measure: the bytes left.
 use Prim.Native.Nat.{_≤_, _-_}
 use borrow.Author.Needs.{needs}
 use lib.ListN.{length}

@@ -1,4 +1,4 @@
--- `chains::list::entries` meets its contract.
+-- `chains::list::entries` meets its contract. The invariant: i ≤ 81. The measure: the entries left.
 use Prim.Native.Nat.{_≤_, _-_}
 use borrow.Author.Needs.{needs}
 use Rattle.chains.proofs.list.entries.Statement.{statement}

@@ -1,4 +1,4 @@
--- `chains::list::listed` meets its contract.
+-- `chains::list::listed` meets its contract: the part that is lent has `size` entries, at most 80 of 81.
 use native.Mathlib.Omega.{arith}
 use lib.ListN.{length-take}
 use borrow.Author.Needs.{needs}

@@ -1,4 +1,4 @@
--- `exports::single::jampreso_file_list` meets its contract: the image (`flatTotal`) of what `list_at` answers, of the file that the record stands for.
+-- `exports::single::jampreso_file_list` meets its contract: the image of what `list_at` answers of the record's file.
 use mathlib.Core.Path.{ap, _∙_}
 use Rattle.flat.specs.Images.{flatTotal}
 use borrow.Author.Needs.{needs}

@@ -1,4 +1,4 @@
--- `exports::single::jampreso_file_step` meets its contract.
+-- `exports::single::jampreso_file_step` meets its contract: the image of the step, and its phase stands for the next (`stepped`).
 use mathlib.Core.Path.{ap, _∙_}
 use Rattle.flat.specs.Images.{flatStepped}
 use Rattle.flat.proofs.Backs.{stepped}

@@ -1,4 +1,4 @@
--- `flat::answers::found_flat` meets its contract.
+-- `flat::answers::found_flat` meets its contract: each case is the row of `flatFound` that it names.
 use Rattle.flat.specs.Images.{flatFound}
 use borrow.Author.Needs.{needs}
 use Rattle.flat.proofs.answers.found_flat.Statement.{statement}

@@ -1,4 +1,4 @@
--- `flat::answers::found_in_flat` meets its contract.
+-- `flat::answers::found_in_flat` meets its contract: each case is the row of `flatFoundIn` that it names.
 use Rattle.flat.specs.Images.{flatFoundIn}
 use borrow.Author.Needs.{needs}
 use Rattle.flat.proofs.answers.found_in_flat.Statement.{statement}

@@ -1,4 +1,4 @@
--- `flat::commits::edge_kind` meets its contract.
+-- `flat::commits::edge_kind` meets its contract: each case is the row of `edgeKind` that it names.
 use borrow.Author.Needs.{needs}
 use Rattle.flat.proofs.commits.edge_kind.Statement.{statement}
 use Rattle.flat.proofs.commits.edge_kind.Tie as tie

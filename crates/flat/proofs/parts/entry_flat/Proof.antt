@@ -1,4 +1,4 @@
--- `flat::parts::entry_flat` meets its contract.
+-- `flat::parts::entry_flat` meets its contract: each case is the row of `flatEntry` that it names.
 use Rattle.flat.specs.Images.{flatEntry}
 use borrow.Author.Needs.{needs}
 use Rattle.flat.proofs.parts.entry_flat.Statement.{statement}

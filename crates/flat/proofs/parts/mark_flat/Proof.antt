@@ -1,4 +1,4 @@
--- `flat::parts::mark_flat` meets its contract.
+-- `flat::parts::mark_flat` meets its contract: each case is the row of `flatMark` that it names.
 use Rattle.flat.specs.Images.{flatMark}
 use borrow.Author.Needs.{needs}
 use Rattle.flat.proofs.parts.mark_flat.Statement.{statement}

@@ -1,4 +1,4 @@
--- `flat::parts::trailer_flat` meets its contract.
+-- `flat::parts::trailer_flat` meets its contract: each case is the row of `flatTrailer` that it names.
 use Rattle.flat.specs.Images.{flatTrailer}
 use borrow.Author.Needs.{needs}
 use Rattle.flat.proofs.parts.trailer_flat.Statement.{statement}

@@ -1,4 +1,4 @@
--- `flat::verdicts::steps_of` meets its contract.
+-- `flat::verdicts::steps_of` meets its contract: each case is the row of `stepsOf` that it names.
 use borrow.Author.Needs.{needs}
 use Rattle.flat.proofs.verdicts.steps_of.Statement.{statement}
 use Rattle.flat.proofs.verdicts.steps_of.Tie as tie

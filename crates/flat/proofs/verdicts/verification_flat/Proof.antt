@@ -1,4 +1,4 @@
--- `flat::verdicts::verification_flat` meets its contract.
+-- `flat::verdicts::verification_flat` meets its contract: each case is the row of `flatVerdict` that it names.
 use Rattle.flat.specs.Images.{flatVerdict}
 use borrow.Author.Needs.{needs}
 use Rattle.flat.proofs.verdicts.verification_flat.Statement.{statement}

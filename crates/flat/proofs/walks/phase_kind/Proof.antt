@@ -1,4 +1,4 @@
--- `flat::walks::phase_kind` meets its contract.
+-- `flat::walks::phase_kind` meets its contract: each case is the row of `phaseKind` that it names.
 use borrow.Author.Needs.{needs}
 use Rattle.flat.proofs.walks.phase_kind.Statement.{statement}
 use Rattle.flat.proofs.walks.phase_kind.Tie as tie

@@ -15,11 +15,4 @@ returns c =
     w then puts 20 _ _ _ (omega (arith, w .place, w .size)) few (wrote .number .ensures .0) (wrote .number .ensures .1)
 
 pub figure-spec : {M : Type 1} → statement M
-figure-spec =
-    tie.close
-    (tie.spec
-    (search needs)
-    (search needs)
-    (search needs)
-    (search needs)
-    returns)
+figure-spec = tie.close (tie.spec (search needs) (search needs) (search needs) (search needs) returns)

@@ -11,9 +11,4 @@ returns c =
     puts _ _ _ _ (wrote .before .before .before .before .pre) (le-refl _) (wrote .put .ensures .0) (wrote .put .ensures .1)
 
 pub word-spec : {M : Type 1} → statement M
-word-spec =
-    tie.close
-    (tie.spec
-    (search needs)
-    (search needs)
-    returns)
+word-spec = tie.close (tie.spec (search needs) (search needs) returns)
