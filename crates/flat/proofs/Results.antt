@@ -15,7 +15,6 @@ use Rattle.flat.proofs.records.file_of.Reads as file-of
 use Rattle.flat.proofs.records.opened_flat.Reads as opened-flat
 use Rattle.flat.proofs.verdicts.traversal_flat.Reads as traversal-flat
 use Rattle.flat.proofs.verdicts.verification_flat.Reads as verification-flat
-use Rattle.flat.proofs.walks.phase_of.Reads as phase-of
 use Rattle.flat.proofs.walks.stepped_flat.Reads as stepped-flat
 use Rattle.flat.proofs.walks.walked_flat.Reads as walked-flat
 use Rattle.flat.proofs.walks.walk_at.Reads as walk-at
@@ -65,9 +64,6 @@ traversal-flat-determined κs a y z d e p q = same p q
 
 pub verification-flat-determined : Determined verification-flat.Learnt
 verification-flat-determined κs a y z d e p q = same p q
-
-pub phase-of-determined : Determined phase-of.Learnt
-phase-of-determined κs a y z d e p q = same p q
 
 pub stepped-flat-determined : Determined stepped-flat.Learnt
 stepped-flat-determined κs a y z d e p q = same p q

@@ -1,9 +1,9 @@
--- `flat::walks::phase_of` meets its contract: each return is the row of `phaseOf` that the tests before it name.
+-- `steps::phase_of` meets its contract: each return is the row of `phaseOf` that the tests before it name.
 use borrow.Author.Tests.{eq-eqb, ne-eqb}
 use Rattle.words.specs.First.{_if_else_}
-use Rattle.flat.specs.Images.{phaseOf}
-use Rattle.flat.proofs.walks.phase_of.Statement.{statement}
-use Rattle.flat.proofs.walks.phase_of.Tie as tie
+use Rattle.steps.specs.Said.{phaseOf}
+use Rattle.steps.proofs.phase_of.Statement.{statement}
+use Rattle.steps.proofs.phase_of.Tie as tie
 
 returns : tie.Need-returns
 unfolding phaseOf _if_else_
