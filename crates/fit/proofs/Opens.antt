@@ -18,7 +18,8 @@ use Rattle.chunk.specs.Index.{chunks, offAt, absent, startOf, sizeOf, indexRule
 use Rattle.chunk.specs.declared.Chunk.{Chunk}
 use Rattle.chunk.specs.declared.Chunk.the-variants.{At, Absent}
 use Rattle.chunk.proofs.Sound.{indexed, lies}
-use Rattle.file.specs.Table.{bases, width, header, indexOf, partOf, baseRules, chunkRules, countRules, falls, peak, peakBy, last, fileOf, notOpen, fanned, chunked, openingBy, opening}
+use Rattle.file.specs.Table.{bases, width, header, indexOf, partOf, baseRules, chunkRules, countRules, falls, peak, peakBy, last, fileOf}
+use Rattle.file.specs.Table.{notOpen, fanned, chunked, openingBy, opening}
 use Rattle.fit.specs.Facts.{Opened, Rises}
 use Rattle.types.specs.Width.{known}
 use Rattle.file.specs.declared.File.{File}
