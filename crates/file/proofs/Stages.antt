@@ -1,6 +1,7 @@
 -- The stages of opening: how a stage answers, and what one that refuses nothing leaves.
 use Prim.Native.Nat.{ℕ, _+_, _<_, _≤_}
 use mathlib.Core.List.{List}
+use mathlib.Core.Bool.{true}
 use mathlib.Core.Path.{_≡_, refl, ap, _∙_, sym}
 use native.Mathlib.Omega.{arith}
 use native.Mathlib.Nat.{le-refl, mul-one}
@@ -9,6 +10,7 @@ use lib.ListN.{length}
 use denote.Ref.{RefT}
 use borrow.Author.Tests.{lt-ltb, le-ltb, ltb-false}
 use Rattle.types.specs.Refusals.{refusal}
+use Rattle.types.specs.Width.{known}
 use Rattle.types.specs.declared.refusal.Refusal.{Refusal}
 use Rattle.words.specs.First.{_if_else_, refuse}
 use Rattle.words.specs.Part.{RecordsOf}
@@ -61,9 +63,9 @@ headed l e =
     let p2 = pass 2 _ _ (lit< tt) (p1 .1) in
     record { most = ltb-false _ _ (p1 .0); least = ltb-false _ _ (p2 .0) }
 
-pub width-wide : (l : List ℕ) → (0 < width l) × (width l < 1000)
+pub width-known : (l : List ℕ) → known (width l) ≡ true
 unfolding width
-width-wide l = omega arith
+width-known l = refl
 
 -- the part that was cut out of a file for a chunk that lies in it is the chunk's own bytes
 pub cut-part : (s r : RefT (List ℕ)) (c : Chunk) {a n : ℕ} → a ≡ startOf c → n ≡ sizeOf c → startOf c + sizeOf c ≤ length (s .now)

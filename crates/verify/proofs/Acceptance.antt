@@ -24,7 +24,8 @@ use Rattle.graph.proofs.Passing.{count-open, each-open, few-positions}
 use Rattle.graph.proofs.Views.{opened-halves, opened-listed}
 use Rattle.walk.specs.Lists.{walkIn}
 use Rattle.audit.specs.Files.{basesIn, baseIn, genIn, entryAt, genAt}
-use Rattle.audit.specs.Rules.{walkRule, alien, badBase, baseRule, headRule, genRule, commitRule, bad, badCommit, commitRules, accepted, refusedBy, verifyFrom, verification, notSound}
+use Rattle.audit.specs.Rules.{walkRule, alien, badBase, baseRule, headRule, genRule, commitRule, bad, badCommit, commitRules}
+use Rattle.audit.specs.Rules.{accepted, refusedBy, verifyFrom, verification, notSound}
 use Rattle.verify.specs.Facts.{SoundCommit, SoundFile, Sound}
 use Rattle.audit.specs.declared.Summary.{Summary}
 use Rattle.audit.specs.declared.Verdict.the-variants.{Accepted, Refused}

@@ -7,14 +7,14 @@ use Rattle.ask.proofs.positions.commit_at.Tie as tie
 
 returns : tie.Need-returns
 returns c =
-    let at-locate = c .before .before .before in
-    commit-none 32 (at-locate .before .before .before .args .chain) _ _ (sym (at-locate .locate .ensures) ∙ c .before .q .given .1)
+    let located = c .before .before .before in
+    commit-none 32 (located .before .before .before .args .chain) _ _ (sym (located .locate .ensures) ∙ c .before .q .given .1)
 
 returns-2 : tie.Need-returns-2
 returns-2 c =
-    let at-part = c .before .before .before in
-    let at-spot = at-part .before .before in
-    commit-part 32 _ _ _ (sym (at-spot .before .before .locate .ensures) ∙ at-spot .spot .given .1) (at-part .part .ensures)
+    let cut = c .before .before .before in
+    let spotted = cut .before .before in
+    commit-part 32 _ _ _ (sym (spotted .before .before .locate .ensures) ∙ spotted .spot .given .1) (cut .part .ensures)
     (c .commit-at .ensures)
 
 pub commit-at-spec : {M : Type 1} → statement M

@@ -13,9 +13,9 @@ returns c =
 
 returns-2 : tie.Need-returns-2
 returns-2 c =
-    let at-part = c .before .before .before in
-    let at-spot = at-part .before .before in
-    id-part 32 _ _ _ (sym (at-spot .before .before .locate .ensures) ∙ at-spot .spot .given .1) (at-part .part .ensures) (c .id-at .ensures)
+    let cut = c .before .before .before in
+    let spotted = cut .before .before in
+    id-part 32 _ _ _ (sym (spotted .before .before .locate .ensures) ∙ spotted .spot .given .1) (cut .part .ensures) (c .id-at .ensures)
 
 pub id-at-spec : {M : Type 1} → statement M
 id-at-spec =

@@ -13,9 +13,9 @@ returns c =
 
 returns-2 : tie.Need-returns-2
 returns-2 c =
-    let at-part = c .before .before .before in
-    let at-spot = at-part .before .before in
-    tree-part 32 _ _ _ (sym (at-spot .before .before .locate .ensures) ∙ at-spot .spot .given .1) (at-part .part .ensures)
+    let cut = c .before .before .before in
+    let spotted = cut .before .before in
+    tree-part 32 _ _ _ (sym (spotted .before .before .locate .ensures) ∙ spotted .spot .given .1) (cut .part .ensures)
     (c .tree-at .ensures)
 
 pub tree-at-spec : {M : Type 1} → statement M

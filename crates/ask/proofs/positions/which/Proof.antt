@@ -7,8 +7,8 @@ use Rattle.ask.proofs.positions.which.Tie as tie
 
 returns : tie.Need-returns
 returns c =
-    let at-locate = c .before .before .before in
-    which-none 32 (at-locate .before .before .before .args .chain) _ _ (sym (at-locate .locate .ensures) ∙ c .before .q .given .1)
+    let located = c .before .before .before in
+    which-none 32 (located .before .before .before .args .chain) _ _ (sym (located .locate .ensures) ∙ c .before .q .given .1)
 
 returns-2 : tie.Need-returns-2
 returns-2 c =

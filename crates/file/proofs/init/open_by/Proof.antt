@@ -3,11 +3,12 @@
 use mathlib.Core.Path.{_≡_, sym, ap}
 use native.Mathlib.Omega.{arith}
 use denote.Ref.{now}
+use Rattle.types.proofs.Widths.{width-bounds}
 use Rattle.types.specs.declared.refusal.Refusal.{Refusal}
 use Rattle.chunk.specs.Index.{indexRule}
 use Rattle.chunk.proofs.Sound.{indexed}
-use Rattle.file.specs.Table.{openingBy}
-use Rattle.file.proofs.Stages.{stages, stage-no, stage-none, stage-as, Headed, headed, width-wide}
+use Rattle.file.specs.Table.{width, openingBy}
+use Rattle.file.proofs.Stages.{stages, stage-no, stage-none, stage-as, Headed, headed, width-known}
 use borrow.Author.Needs.{needs}
 use Rattle.file.proofs.init.open_by.Statement.{statement}
 use Rattle.file.proofs.init.open_by.Tie as tie
@@ -42,7 +43,8 @@ chunks-open-requires c κs =
     let sound = c .before .before .before in
     let start = sound .before .before .before .before .before .before in
     let l = now (start .args .s) in
-    (indexed l (none sound), (c .before .before .locate .ensures, omega (arith, width-wide l), omega (arith, width-wide l)))
+    let w = width-bounds (width l) (width-known l) in
+    (indexed l (none sound), (c .before .before .locate .ensures, omega arith, omega arith))
 
 returns-3 : tie.Need-returns-3
 unfolding openingBy
