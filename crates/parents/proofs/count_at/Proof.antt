@@ -26,7 +26,7 @@ counted c e =
     total-plain _ _ _ (k .0 .rule) (c .count-in .ensures .is ∙ rw (k .1, c .before .before .present .ensures, c .before .edge .ensures .bytes)) e
 
 returns : tie.Need-returns
-returns c = answers (total-misfit _ _ _ _ (commit-barred _ _ _ (c .before .before .before .commit-at .ensures .is) (c .before .r .given .1)))
+returns c = answers (total-misfit _ _ _ (commit-barred _ _ _ (c .before .before .before .commit-at .ensures .is) (c .before .r .given .1)))
 
 returns-2 : tie.Need-returns-2
 unfolding totalBy

@@ -14,7 +14,7 @@ edge-requires c κs =
     commit-given _ _ _ (given .before .before .commit-at .ensures .is) (given .c .given .1) .0 .fits
 
 returns : tie.Need-returns
-returns c = answers (step-misfit _ _ _ _ _ (commit-barred _ _ _ (c .before .before .before .commit-at .ensures .is) (c .before .r .given .1)))
+returns c = answers (step-misfit _ _ _ _ (commit-barred _ _ _ (c .before .before .before .commit-at .ensures .is) (c .before .r .given .1)))
 
 returns-2 : tie.Need-returns-2
 returns-2 c =

@@ -36,7 +36,7 @@ returns c =
 
 returns-2 : tie.Need-returns-2
 returns-2 c =
-    also (list-short _ _ _ _ (total-misfit _ _ _ _ (commit-barred _ _ _ (c .before .before .before .commit-at .ensures .is) (c .before .r .given .1))))
+    also (list-short _ _ _ _ (total-misfit _ _ _ (commit-barred _ _ _ (c .before .before .before .commit-at .ensures .is) (c .before .r .given .1))))
 
 returns-3 : tie.Need-returns-3
 unfolding totalBy
