@@ -3,3 +3,4 @@ pub mod Asks
 pub mod Looks
 pub mod Stores
 pub mod Saying
+pub mod Results

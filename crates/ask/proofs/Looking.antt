@@ -1,4 +1,4 @@
--- A pass that looks for an id: what was seen, else what is still to come, answers as the whole does.
+-- A pass that looks for an id. What stands when it is at file k is `Looking`: what was seen, else what the files from k on say, is what all say.
 use Prim.Native.Nat.{ℕ, suc, _+_, _-_, _≤_, _<_}
 use mathlib.Core.List.{List}
 use mathlib.Core.Bool.{Bool, true, false}

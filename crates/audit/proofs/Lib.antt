@@ -4,3 +4,4 @@ pub mod Heading
 pub mod Trying
 pub mod Filing
 pub mod Saying
+pub mod Results

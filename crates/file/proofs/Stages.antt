@@ -27,12 +27,12 @@ pub stage-yes : (n m p q : ℕ) (rest r : Opening) → m ≡ n → q ≡ p → 0
 unfolding notOpen
 stage-yes n m p q rest r d e h g = g ∙ rw (← d, ← e) (refuse-some m (notOpen q) rest h)
 
-pub stage-no : (n m p : ℕ) (rest r : Opening) → m ≡ n → m ≤ 0 → r ≡ rest → r ≡ refuse n (notOpen p) rest
-stage-no n m p rest r d h g = g ∙ sym (refuse-none _ _ (omega arith))
+pub stage-no : {n m : ℕ} (p : ℕ) {rest r : Opening} → m ≡ n → m ≤ 0 → r ≡ rest → r ≡ refuse n (notOpen p) rest
+stage-no p d h g = g ∙ sym (refuse-none _ _ (omega arith))
 
 -- a stage of which it is known that it answers 0
-pub stage-none : (n p : ℕ) (rest r : Opening) → 0 ≡ n → r ≡ rest → r ≡ refuse n (notOpen p) rest
-stage-none n p rest r d g = stage-no n 0 p rest r d (le-refl 0) g
+pub stage-none : {n : ℕ} (p : ℕ) {rest r : Opening} → 0 ≡ n → r ≡ rest → r ≡ refuse n (notOpen p) rest
+stage-none p d g = stage-no p d (le-refl 0) g
 
 -- a refusal handed back whole
 pub stage-as : (n p : ℕ) {i : Refusal} (rest : Opening) → i ≡ refusal n p → 0 < i .number → Refused i ≡ refuse n (notOpen p) rest

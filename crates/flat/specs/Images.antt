@@ -2,9 +2,7 @@
 -- step's phase; where there is none these three are 0.
 use Prim.Native.Nat.{ℕ, _-_}
 use mathlib.Core.List.{List}
-use lib.Dec.{eqb}
 use lib.ListN.{length}
-use Rattle.words.specs.First.{_if_else_}
 use Rattle.name.specs.declared.Name.{Name as Named}
 use Rattle.access.specs.declared.Asking.{Asking}
 use Rattle.access.specs.declared.Asking.the-variants.{Fine, Refused as Met}
@@ -15,7 +13,6 @@ use Rattle.chunk.specs.declared.Indexed.the-variants.{Entry as Listed, Past, Re
 use Rattle.commit.specs.declared.Asked.{Asked as Told}
 use Rattle.commit.specs.declared.Asked.the-variants.{Commit as Is, Refused as NoCommit}
 use Rattle.steps.specs.declared.Phase.{Phase}
-use Rattle.steps.specs.declared.Phase.the-variants.{First, Second, Edge, Exhausted}
 use Rattle.parents.specs.declared.Answer.{Answer}
 use Rattle.parents.specs.declared.Answer.the-variants.{Parent, Refused as NoParent, End}
 use Rattle.parents.specs.declared.Step.{Step as Stepped}
@@ -40,7 +37,7 @@ use Rattle.audit.specs.declared.Verdict.{Verdict}
 use Rattle.audit.specs.declared.Verdict.the-variants.{Accepted, Refused as NotVerified}
 use Rattle.audit.specs.declared.Verification.{Verification as Verified}
 use Rattle.commit.specs.Said.{edgeKind, edgeWord}
-use Rattle.steps.specs.Said.{phaseKind, phaseEdge}
+use Rattle.steps.specs.Said.{phaseKind, phaseEdge, phaseOf}
 use Rattle.audit.specs.Said.{cyclicOf, stepsOf}
 use Rattle.flat.specs.declared.Digest.{Digest}
 use Rattle.flat.specs.declared.Name.{Name}
@@ -142,14 +139,6 @@ flatCommit (NoCommit r) =
       second = 0;
       spare = 0;
     }
-
--- a phase again, from its number and its EDGE number: any other number is exhausted
-unfoldable pub phaseOf : ℕ → ℕ → Phase
-phaseOf n edge =
-    First if eqb n 0 else
-    Second if eqb n 1 else
-    Edge edge if eqb n 2 else
-    Exhausted
 
 -- a step's answer and the phase after it
 unfoldable pub flatStep : Answer → Phase → Step

@@ -3,3 +3,4 @@ pub mod Views
 pub mod Standing
 pub mod Spots
 pub mod Saying
+pub mod Results

@@ -1,4 +1,4 @@
 pub mod Walking
 pub mod Filling
-pub mod Determined
+pub mod Results
 pub mod Saying

@@ -13,7 +13,8 @@ use Rattle.parents.specs.declared.Step.{Step}
 use Rattle.parents.specs.declared.Total.{Total}
 use Rattle.parents.specs.declared.Total.the-variants.{Count, Refused as Short}
 use Rattle.steps.specs.declared.Phase.{Phase}
-use Rattle.steps.proofs.Saying.{phase-from, phase-again}
+use Rattle.steps.specs.Said.{phaseOf}
+use Rattle.steps.proofs.Saying.{phase-again}
 
 abbrev pub answer-from : Refusal → List ℕ → Answer
 answer-from r [] = Refused r
@@ -34,7 +35,7 @@ answer-back = record { of = answer-of; back = answer-again }
 
 abbrev step-of : Said → Step
 step-of s =
-    record { answer = answer-from (refusalOf s) (drop 2 (s .values)); next = phase-from (getD (s .values) 0 0) (getD (s .values) 1 0) }
+    record { answer = answer-from (refusalOf s) (drop 2 (s .values)); next = phaseOf (getD (s .values) 0 0) (getD (s .values) 1 0) }
 
 step-again : (a : Step) → step-of (stepSaid a) ≡ a
 unfolding stepSaid

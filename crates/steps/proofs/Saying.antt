@@ -3,9 +3,10 @@ use Prim.Native.Nat.{ℕ, zero, suc}
 use mathlib.Core.List.{List, [], _∷_}
 use mathlib.Core.Path.{_≡_, refl, ap₂}
 use lib.ListN.{getD, drop}
+use Rattle.words.specs.First.{_if_else_}
 use Rattle.types.specs.Said.{Said}
 use Rattle.types.proofs.Saying.{Back}
-use Rattle.steps.specs.Said.{extraSaid, phaseKind, phaseEdge, phaseSaid, metSaid, nextSaid, countedSaid}
+use Rattle.steps.specs.Said.{extraSaid, phaseKind, phaseEdge, phaseSaid, phaseOf, metSaid, nextSaid, countedSaid}
 use Rattle.steps.specs.declared.ExtraEdge.{ExtraEdge}
 use Rattle.steps.specs.declared.ExtraEdge.the-variants.{Internal, Last}
 use Rattle.steps.specs.declared.Phase.{Phase}
@@ -31,16 +32,11 @@ extra-again (Last p) = refl
 pub extra-back : Back extraSaid
 extra-back = record { of = extra-of; back = extra-again }
 
-abbrev pub phase-from : ℕ → ℕ → Phase
-phase-from zero k = First
-phase-from (suc zero) k = Second
-phase-from (suc (suc zero)) k = Edge k
-phase-from (suc (suc (suc n))) k = Exhausted
-
 abbrev phase-of : Said → Phase
-phase-of s = phase-from (getD (s .values) 0 0) (getD (s .values) 1 0)
+phase-of s = phaseOf (getD (s .values) 0 0) (getD (s .values) 1 0)
 
-pub phase-again : (a : Phase) → phase-from (phaseKind a) (phaseEdge a) ≡ a
+pub phase-again : (a : Phase) → phaseOf (phaseKind a) (phaseEdge a) ≡ a
+unfolding phaseOf _if_else_
 phase-again First = refl
 phase-again Second = refl
 phase-again (Edge k) = refl
@@ -68,7 +64,7 @@ met-back = record { of = met-of; back = met-again }
 
 abbrev next-of : Said → Next
 next-of s =
-    record { met = met-from (s .number) (drop 2 (s .values)); phase = phase-from (getD (s .values) 0 0) (getD (s .values) 1 0) }
+    record { met = met-from (s .number) (drop 2 (s .values)); phase = phaseOf (getD (s .values) 0 0) (getD (s .values) 1 0) }
 
 next-again : (a : Next) → next-of (nextSaid a) ≡ a
 unfolding nextSaid

@@ -1,6 +1,8 @@
 -- What each case of `ExtraEdge`, `Phase`, `Met` and `Counted` says, and a step: a phase is its kind, 0 to 3, and its EDGE number.
 use Prim.Native.Nat.{ℕ}
 use mathlib.Core.List.{[], _∷_}
+use lib.Dec.{eqb}
+use Rattle.words.specs.First.{_if_else_}
 use Rattle.types.specs.Said.{Said, says, refuses, beside}
 use Rattle.steps.specs.declared.ExtraEdge.{ExtraEdge}
 use Rattle.steps.specs.declared.ExtraEdge.the-variants.{Internal, Last}
@@ -31,6 +33,14 @@ phaseEdge Exhausted = 0
 
 abbrev pub phaseSaid : Phase → Said
 phaseSaid s = says (phaseKind s) (phaseEdge s ∷ [])
+
+-- a phase again, from its number and its EDGE number: any other number is exhausted
+unfoldable pub phaseOf : ℕ → ℕ → Phase
+phaseOf n edge =
+    First if eqb n 0 else
+    Second if eqb n 1 else
+    Edge edge if eqb n 2 else
+    Exhausted
 
 -- a refusal here has a number alone
 unfoldable pub metSaid : Met → Said

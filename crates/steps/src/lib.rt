@@ -8,6 +8,7 @@ use types::refusal::FIRST_EDGE;
 use types::refusal::SECOND_ALONE;
 use words::big::be32;
 ghost use mathlib.Core.Path.{_≡_};
+ghost use Rattle.steps.specs.Said.{phaseOf};
 ghost use Rattle.steps.specs.Walks.{
   extraOf,
   stop,
@@ -54,6 +55,22 @@ pub struct Next {
 pub enum Counted {
     Count(usize),
     Refused(u32),
+}
+
+// The phase of a number and an EDGE number; a number that is none of a phase counts as exhausted.
+pub fn phase_of(kind: u32, k: usize) -> Phase
+    ensures { λ r. ⌜ r ≡ phaseOf kind k ⌝ }
+{
+    if kind == 0 {
+        return Phase::First;
+    }
+    if kind == 1 {
+        return Phase::Second;
+    }
+    if kind == 2 {
+        return Phase::Edge(k);
+    }
+    Phase::Exhausted
 }
 
 fn extra_edge(raw: u32) -> ExtraEdge

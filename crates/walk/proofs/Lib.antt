@@ -3,3 +3,4 @@ pub mod Lists
 pub mod Doors
 pub mod Following
 pub mod Saying
+pub mod Results

@@ -7,14 +7,15 @@ use Rattle.walk.specs.Said.{stepSaid}
 use Rattle.walk.specs.declared.Step.{Step}
 use Rattle.steps.specs.declared.Phase.{Phase}
 use Rattle.parents.specs.declared.Answer.{Answer}
-use Rattle.steps.proofs.Saying.{phase-from, phase-again}
+use Rattle.steps.specs.Said.{phaseOf}
+use Rattle.steps.proofs.Saying.{phase-again}
 use Rattle.parents.proofs.Saying.{answer-from, answer-again}
 
 abbrev step-of : Said → Step
 step-of s =
     record {
       answer = answer-from (refusalOf s) (drop 3 (s .values));
-      next = record { commit = record { 0 = getD (s .values) 0 0 }; phase = phase-from (getD (s .values) 1 0) (getD (s .values) 2 0) };
+      next = record { commit = record { 0 = getD (s .values) 0 0 }; phase = phaseOf (getD (s .values) 1 0) (getD (s .values) 2 0) };
     }
 
 step-again : (a : Step) → step-of (stepSaid a) ≡ a

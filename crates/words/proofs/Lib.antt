@@ -5,3 +5,4 @@ pub mod Parts
 pub mod Fills
 pub mod Adds
 pub mod Determined
+pub mod Results

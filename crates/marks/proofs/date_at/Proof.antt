@@ -1,4 +1,4 @@
--- `marks::date_at` meets its contract.
+-- `marks::date_at` meets its contract: a question that the rule passes has its row in the file, so that the date's place neither wraps nor lies outside.
 use Prim.Native.Nat.{ℕ}
 use mathlib.Core.Path.{ap, _∙_}
 use native.Mathlib.Omega.{arith}
@@ -26,12 +26,4 @@ returns-2 : tie.Need-returns-2
 returns-2 c = ap (λ (n : ℕ). At (run n 8)) (c .field .ensures) ∙ date-in _ _ _ (c .before .before .ask .ensures) (c .before .if1 .left)
 
 pub date-at-spec : {M : Type 1} → statement M
-date-at-spec =
-    tie.close
-    (tie.spec
-    (λ c κs. search needs)
-    (λ c κs. search needs)
-    returns
-    field-requires
-    add-end
-    returns-2)
+date-at-spec = tie.close (tie.spec (search needs) (search needs) returns field-requires add-end returns-2)

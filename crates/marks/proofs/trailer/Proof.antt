@@ -1,4 +1,4 @@
--- `marks::trailer` meets its contract.
+-- `marks::trailer` meets its contract: each return is the way through `checkOf` that the two sizes and the sum name.
 use mathlib.Core.Path.{ap, _∙_}
 use Rattle.marks.specs.declared.Checked.the-variants.{Refused}
 use Rattle.marks.proofs.Ways.{check-large, check-small, check-wrong, check-right}
@@ -14,23 +14,23 @@ returns-2 c = ap Refused (c .at2 .ensures) ∙ check-small _ (c .before .before 
 
 returns-3 : tie.Need-returns-3
 returns-3 c =
-    let at-if2 = c .before .before in
-    check-wrong _ (at-if2 .before .if1 .left) (at-if2 .if2 .left) (c .before .sum-in .ensures) (c .if3 .taken)
+    let sized = c .before .before in
+    check-wrong _ (sized .before .if1 .left) (sized .if2 .left) (c .before .sum-in .ensures) (c .if3 .taken)
 
 returns-4 : tie.Need-returns-4
 returns-4 c =
-    let at-if2 = c .before .before in
-    check-right _ (at-if2 .before .if1 .left) (at-if2 .if2 .left) (c .before .sum-in .ensures) (c .if3 .left)
+    let sized = c .before .before in
+    check-right _ (sized .before .if1 .left) (sized .if2 .left) (c .before .sum-in .ensures) (c .if3 .left)
 
 pub trailer-spec : {M : Type 1} → statement M
 trailer-spec =
     tie.close
     (tie.spec
-    (λ c κs. search needs)
+    (search needs)
     returns
-    (λ c κs. search needs)
+    (search needs)
     returns-2
-    (λ c. search needs)
-    (λ c κs. search needs)
+    (search needs)
+    (search needs)
     returns-3
     returns-4)

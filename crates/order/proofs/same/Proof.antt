@@ -1,4 +1,4 @@
--- `order::same` meets its contract.
+-- `order::same` meets its contract: an order is Equal exactly if the numbers are (`told-same`).
 use Rattle.order.proofs.Ordered.{told-same}
 use borrow.Author.Needs.{needs}
 use Rattle.order.proofs.same.Statement.{statement}

@@ -1,4 +1,4 @@
--- `steps::step_in` meets its contract.
+-- `steps::step_in` meets its contract: each phase's step is the row of `nextOf` that its case names.
 use mathlib.Core.Path.{_∙_}
 use Rattle.steps.specs.Walks.{nextOf}
 use borrow.Author.Needs.{needs}
@@ -25,14 +25,14 @@ pub step-in-spec : {M : Type 1} → statement M
 step-in-spec =
     tie.close
     (tie.spec
-    (λ c. search needs)
-    (λ c κs. search needs)
-    (λ c. search needs)
-    (λ c κs. search needs)
-    (λ c. search needs)
-    (λ c κs. search needs)
-    (λ c. search needs)
-    (λ c κs. search needs)
+    (search needs)
+    (search needs)
+    (search needs)
+    (search needs)
+    (search needs)
+    (search needs)
+    (search needs)
+    (search needs)
     returns
     returns-2
     returns-3

@@ -1,4 +1,4 @@
--- `exports::single::jampreso_entry` meets its contract.
+-- `exports::single::jampreso_entry` meets its contract: the image of what `nth` answers.
 use mathlib.Core.Path.{ap, _∙_}
 use Rattle.flat.specs.Images.{flatEntry}
 use borrow.Author.Needs.{needs}
@@ -9,9 +9,4 @@ returns : tie.Need-returns
 returns c = c .entry-flat .ensures ∙ ap flatEntry (c .before .nth .ensures)
 
 pub jampreso-entry-spec : {M : Type 1} → statement M
-jampreso-entry-spec =
-    tie.close
-    (tie.spec
-    (λ c κs. search needs)
-    (λ c κs. search needs)
-    returns)
+jampreso-entry-spec = tie.close (tie.spec (search needs) (search needs) returns)

@@ -1,4 +1,4 @@
--- `exports::single::jampreso_file_traverse` meets its contract.
+-- `exports::single::jampreso_file_traverse` meets its contract: the image of what `traverse` answers.
 use mathlib.Core.Path.{ap, _∙_}
 use Rattle.flat.specs.Images.{flatTraversal}
 use borrow.Author.Needs.{needs}
@@ -9,9 +9,4 @@ returns : tie.Need-returns
 returns c = c .traversal-flat .ensures ∙ ap flatTraversal (c .before .traverse .ensures)
 
 pub jampreso-file-traverse-spec : {M : Type 1} → statement M
-jampreso-file-traverse-spec =
-    tie.close
-    (tie.spec
-    (λ c κs. search needs)
-    (λ c κs. search needs)
-    returns)
+jampreso-file-traverse-spec = tie.close (tie.spec (search needs) (search needs) returns)

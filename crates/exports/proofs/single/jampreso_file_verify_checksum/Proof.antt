@@ -1,4 +1,4 @@
--- `exports::single::jampreso_file_verify_checksum` meets its contract.
+-- `exports::single::jampreso_file_verify_checksum` meets its contract: the image of what `verify_checksum` answers of the record's file.
 use mathlib.Core.Path.{ap, _∙_}
 use Rattle.flat.specs.Images.{flatAsked}
 use borrow.Author.Needs.{needs}
@@ -12,7 +12,7 @@ pub jampreso-file-verify-checksum-spec : {M : Type 1} → statement M
 jampreso-file-verify-checksum-spec =
     tie.close
     (tie.spec
-    (λ c κs. search needs)
-    (λ c κs. search needs)
-    (λ c κs. search needs)
+    (search needs)
+    (search needs)
+    (search needs)
     returns)

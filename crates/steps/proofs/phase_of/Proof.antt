@@ -1,9 +1,9 @@
--- `flat::walks::phase_of` meets its contract.
+-- `steps::phase_of` meets its contract: each return is the row of `phaseOf` that the tests before it name.
 use borrow.Author.Tests.{eq-eqb, ne-eqb}
 use Rattle.words.specs.First.{_if_else_}
-use Rattle.flat.specs.Images.{phaseOf}
-use Rattle.flat.proofs.walks.phase_of.Statement.{statement}
-use Rattle.flat.proofs.walks.phase_of.Tie as tie
+use Rattle.steps.specs.Said.{phaseOf}
+use Rattle.steps.proofs.phase_of.Statement.{statement}
+use Rattle.steps.proofs.phase_of.Tie as tie
 
 returns : tie.Need-returns
 unfolding phaseOf _if_else_
@@ -22,8 +22,4 @@ unfolding phaseOf _if_else_
 returns-4 c = rw (ne-eqb _ 0 (c .before .before .if1 .left), ne-eqb _ 1 (c .before .if2 .left), ne-eqb _ 2 (c .if3 .left))
 
 pub phase-of-spec : {M : Type 1} → statement M
-phase-of-spec = tie.close (tie.spec
-    returns
-    returns-2
-    returns-3
-    returns-4)
+phase-of-spec = tie.close (tie.spec returns returns-2 returns-3 returns-4)

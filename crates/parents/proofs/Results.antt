@@ -1,5 +1,6 @@
--- Each public function: any two results that its promise allows on the same arguments are equal.
-use Rattle.words.proofs.Determined.{Determined, DeterminedHeld, same}
+-- Any two results that a public function's promise allows on the same arguments are equal. Made by tests/results.py.
+use denote.Ref.{now}
+use Rattle.words.proofs.Determined.{same, Determined, DeterminedHeld}
 use Rattle.parents.proofs.step_at.Reads as step-at
 use Rattle.parents.proofs.count_at.Reads as count-at
 use Rattle.parents.proofs.listing.list_at.Reads as list-at
@@ -13,5 +14,5 @@ count-at-determined κs a y z d e p q = same p q
 pub list-at-determined : Determined list-at.Learnt
 list-at-determined κs a y z d e p q = same (p .0) (q .0)
 
-pub list-at-held : DeterminedHeld (λ κs e. e .1 .1 .1 .0 .now) list-at.Learnt
+pub list-at-held : DeterminedHeld (λ κs e. now (e .1 .1 .1 .0)) list-at.Learnt
 list-at-held κs a y z d e p q = same (p .1) (q .1)
