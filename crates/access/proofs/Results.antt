@@ -13,10 +13,10 @@ pub base-at-determined : DeterminedPart base-at.Learnt
 base-at-determined κs a y z d e p q = same-part p q
 
 pub which-determined : Determined which.Learnt
-which-determined κs a y z d e p q = same p q
+which-determined κs a y z d e p q = same (p .is) (q .is)
 
 pub which-base-determined : Determined which-base.Learnt
-which-base-determined κs a y z d e p q = same p q
+which-base-determined κs a y z d e p q = same (p .is) (q .is)
 
 pub lookup-determined : Determined lookup.Learnt
-lookup-determined κs a y z d e p q = same (p .0) (q .0)
+lookup-determined κs a y z d e p q = same (p .0 .is) (q .0 .is)

@@ -7,10 +7,10 @@ use Rattle.ask.proofs.positions.tree_at.Reads as tree-at
 use Rattle.ask.proofs.positions.commit_at.Reads as commit-at
 
 pub find-determined : Determined find.Learnt
-find-determined κs a y z d e p q = same (p .0) (q .0)
+find-determined κs a y z d e p q = same (p .0 .is) (q .0 .is)
 
 pub which-determined : Determined which.Learnt
-which-determined κs a y z d e p q = same p q
+which-determined κs a y z d e p q = same (p .is) (q .is)
 
 pub id-at-determined : DeterminedPart id-at.Learnt
 id-at-determined κs a y z d e p q = same-part p q
@@ -19,4 +19,4 @@ pub tree-at-determined : DeterminedPart tree-at.Learnt
 tree-at-determined κs a y z d e p q = same-part p q
 
 pub commit-at-determined : Determined commit-at.Learnt
-commit-at-determined κs a y z d e p q = same p q
+commit-at-determined κs a y z d e p q = same (p .is) (q .is)

@@ -3,4 +3,4 @@ use Rattle.words.proofs.Determined.{same, Determined}
 use Rattle.audit.proofs.audit.Reads as audit
 
 pub audit-determined : Determined audit.Learnt
-audit-determined κs a y z d e p q = same p q
+audit-determined κs a y z d e p q = same (p .is) (q .is)

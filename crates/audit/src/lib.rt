@@ -15,6 +15,8 @@ use types::refusal;
 use types::refusal::Refusal;
 use words::part::part;
 ghost use mathlib.Core.Path.{_≡_};
+ghost use Rattle.audit.specs.Said.{verificationSaid};
+ghost use Rattle.types.specs.Said.{Answers};
 ghost use Prim.Native.Nat.{_+_, _-_, _≤_, _<_};
 ghost use Rattle.list.specs.List.{recordsOf};
 ghost use Rattle.ancestry.specs.Graph.{highestBelow, lengthOf};
@@ -145,7 +147,7 @@ fn accepted(commits: usize, highest: u32, counts: [u32; 66]) -> Verification
 
 // Verifies a chain. What the answer comes to is said by `verify`.
 pub fn audit(chain: &[u8], list: &[u8]) -> Verification
-    ensures { λ r. ⌜ r ≡ verification 32 (now (chain .entry)) (now (list .entry)) ⌝ }
+    ensures { λ r. ⌜ Answers verificationSaid r (verification 32 (now (chain .entry)) (now (list .entry))) ⌝ }
 {
     let m = check(list, chain.len());
     if 0 < m.number {

@@ -9,7 +9,7 @@ use Rattle.chunk.proofs.check.Reads as check
 use Rattle.chunk.proofs.nth.Reads as nth
 
 pub find-determined : Determined find.Learnt
-find-determined κs a y z d e p q = same p q
+find-determined κs a y z d e p q = same (p .is) (q .is)
 
 pub missing-determined : Determined missing.Learnt
 missing-determined κs a y z d e p q = same p q
@@ -27,4 +27,4 @@ pub check-determined : Determined check.Learnt
 check-determined κs a y z d e p q = same p q
 
 pub nth-determined : Determined nth.Learnt
-nth-determined κs a y z d e p q = same p q
+nth-determined κs a y z d e p q = same (p .is) (q .is)

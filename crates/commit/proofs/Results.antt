@@ -5,10 +5,10 @@ use Rattle.commit.proofs.commit_at.Reads as commit-at
 use Rattle.commit.proofs.tree_at.Reads as tree-at
 
 pub commit-in-determined : Determined commit-in.Learnt
-commit-in-determined κs a y z d e p q = same p q
+commit-in-determined κs a y z d e p q = same (p .is) (q .is)
 
 pub commit-at-determined : Determined commit-at.Learnt
-commit-at-determined κs a y z d e p q = same p q
+commit-at-determined κs a y z d e p q = same (p .is) (q .is)
 
 pub tree-at-determined : DeterminedPart tree-at.Learnt
 tree-at-determined κs a y z d e p q = same-part p q

@@ -3,4 +3,4 @@ use Rattle.words.proofs.Determined.{same, Determined}
 use Rattle.file.proofs.init.open.Reads as «open»
 
 pub open-determined : Determined «open».Learnt
-open-determined κs a y z d e p q = same p q
+open-determined κs a y z d e p q = same (p .is) (q .is)

@@ -5,10 +5,10 @@ use Rattle.graph.proofs.locate.of_file.Reads as of-file
 use Rattle.graph.proofs.locate.locate.Reads as locate
 
 pub open-determined : Determined «open».Learnt
-open-determined κs a y z d e p q = same p q
+open-determined κs a y z d e p q = same (p .is) (q .is)
 
 pub of-file-determined : Determined of-file.Learnt
 of-file-determined κs a y z d e p q = same p q
 
 pub locate-determined : Determined locate.Learnt
-locate-determined κs a y z d e p q = same p q
+locate-determined κs a y z d e p q = same (p .is) (q .is)

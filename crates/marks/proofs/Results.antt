@@ -6,13 +6,13 @@ use Rattle.marks.proofs.entry_at.Reads as entry-at
 use Rattle.marks.proofs.trailer.Reads as trailer
 
 pub word-at-determined : Determined word-at.Learnt
-word-at-determined κs a y z d e p q = same (p .0) (q .0)
+word-at-determined κs a y z d e p q = same (p .0 .is) (q .0 .is)
 
 pub date-at-determined : Determined date-at.Learnt
-date-at-determined κs a y z d e p q = same p q
+date-at-determined κs a y z d e p q = same (p .is) (q .is)
 
 pub entry-at-determined : Determined entry-at.Learnt
-entry-at-determined κs a y z d e p q = same p q
+entry-at-determined κs a y z d e p q = same (p .is) (q .is)
 
 pub trailer-determined : Determined trailer.Learnt
-trailer-determined κs a y z d e p q = same p q
+trailer-determined κs a y z d e p q = same (p .is) (q .is)

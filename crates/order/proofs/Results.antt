@@ -8,7 +8,7 @@ pub zero-determined : Determined zero.Learnt
 zero-determined κs a y z d e p q = same p q
 
 pub compare-determined : Determined compare.Learnt
-compare-determined κs a y z d e p q = same p q
+compare-determined κs a y z d e p q = same (p .is) (q .is)
 
 pub same-determined : Determined same.Learnt
 same-determined κs a y z d e p q = same p q

@@ -5,10 +5,10 @@ use Rattle.steps.proofs.step_in.Reads as step-in
 use Rattle.steps.proofs.count_in.Reads as count-in
 
 pub phase-of-determined : Determined phase-of.Learnt
-phase-of-determined κs a y z d e p q = same p q
+phase-of-determined κs a y z d e p q = same (p .is) (q .is)
 
 pub step-in-determined : Determined step-in.Learnt
-step-in-determined κs a y z d e p q = same p q
+step-in-determined κs a y z d e p q = same (p .is) (q .is)
 
 pub count-in-determined : Determined count-in.Learnt
-count-in-determined κs a y z d e p q = same p q
+count-in-determined κs a y z d e p q = same (p .is) (q .is)

@@ -7,4 +7,4 @@ pub checksum-determined : DeterminedPart checksum.Learnt
 checksum-determined κs a y z d e p q = same-part p q
 
 pub verify-checksum-determined : Determined verify-checksum.Learnt
-verify-checksum-determined κs a y z d e p q = same p q
+verify-checksum-determined κs a y z d e p q = same (p .is) (q .is)

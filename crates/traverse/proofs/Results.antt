@@ -4,7 +4,7 @@ use Rattle.traverse.proofs.traverse.Reads as traverse
 use Rattle.traverse.proofs.commits.key.Reads as key
 
 pub traverse-determined : Determined traverse.Learnt
-traverse-determined κs a y z d e p q = same p q
+traverse-determined κs a y z d e p q = same (p .is) (q .is)
 
 pub key-determined : Determined key.Learnt
 key-determined κs a y z d e p q = same (p .0) (q .0)

@@ -18,3 +18,7 @@ refusalOf s = record { number = s .number; file = s .file; place = s .place }
 -- an answer that is d says what d says
 pub answers : {A : Type 0} {said : A → Said} {r d : A} → r ≡ d → Answers said r d
 answers {A} {said} e = record { is = e; says = ap said e }
+
+-- the same beside what else a promise says
+pub also : {A B : Type 0} {said : A → Said} {r d : A} → (r ≡ d) × B → Answers said r d × B
+also k = (answers (k .0), k .1)

@@ -3,4 +3,4 @@ use Rattle.words.proofs.Determined.{same, Determined}
 use Rattle.verify.proofs.verify.Reads as verify
 
 pub verify-determined : Determined verify.Learnt
-verify-determined κs a y z d e p q = same (p .0) (q .0)
+verify-determined κs a y z d e p q = same (p .0 .is) (q .0 .is)

@@ -34,7 +34,7 @@ unfolding keyOf
 loop-again c =
     let turn = c .before .before .before in (
       omega arith,
-      turn-less _ _ (turn .before .loop .inv .1) (turn .loop-test .taken) refl (c .before .before .compare .ensures) (c .enum-told .given .1),
+      turn-less _ _ (turn .before .loop .inv .1) (turn .loop-test .taken) refl (c .before .before .compare .ensures .is) (c .enum-told .given .1),
     )
 
 returns : tie.Need-returns Inv-loop μ-loop
@@ -42,14 +42,14 @@ unfolding keyOf
 returns c =
     let turn = c .before .before .before in
     sym (turn-equal _ _ (turn .before .loop .inv .1) (turn .loop-test .taken) refl
-    (c .before .before .compare .ensures) (c .enum-told2 .given .1))
+    (c .before .before .compare .ensures .is) (c .enum-told2 .given .1))
 
 loop-again-2 : tie.Need-loop-again-2 Inv-loop μ-loop
 unfolding keyOf
 loop-again-2 c =
     let turn = c .before .before .before in (
       omega arith,
-      turn-greater _ _ (turn .before .loop .inv .1) (turn .loop-test .taken) refl (c .before .before .compare .ensures) (c .enum-told3 .given .1),
+      turn-greater _ _ (turn .before .loop .inv .1) (turn .loop-test .taken) refl (c .before .before .compare .ensures .is) (c .enum-told3 .given .1),
     )
 
 returns-2 : tie.Need-returns-2 Inv-loop μ-loop

@@ -4,6 +4,9 @@ use mathlib.Core.Path.{_≡_, ap₂, _∙_}
 use native.Mathlib.Omega.{arith}
 use lib.ListN.{getD}
 use denote.Ref.{now}
+use Rattle.access.specs.Said.{foundSaid}
+use Rattle.types.specs.Said.{Answers}
+use Rattle.types.proofs.Saying.{also}
 use Rattle.fit.specs.Fits.{fanPart, Fitted}
 use Rattle.access.specs.Lookup.{upper, lower, lookupOf, Right}
 use Rattle.access.specs.declared.Found.{Found}
@@ -17,8 +20,9 @@ use Rattle.access.proofs.lookup.Tie as tie
 -- a result that is the definition's is right: the bytes of both slices are bytes
 right : (c : tie.After-fit) {r : Found}
     → (let a = c .before .before .before .args in let l = now (a .s) in let x = now (a .x) in
-    r ≡ lookupOf l (a .f) x → (r ≡ lookupOf l (a .f) x) × Right l (a .f) x r)
-right c e = both _ _ _ (λ i. c .before .before .shared-slice-known .given i .fits) (λ i. c .before .shared-slice-known2 .given i .fits) e
+    r ≡ lookupOf l (a .f) x → Answers foundSaid r (lookupOf l (a .f) x) × Right l (a .f) x r)
+right c e =
+    also (both _ _ _ (λ i. c .before .before .shared-slice-known .given i .fits) (λ i. c .before .shared-slice-known2 .given i .fits) e)
 
 -- the record fits
 fits : (c : tie.Else1) → (let a = c .before .before .before .before .args in Fitted (now (a .s)) (a .f))

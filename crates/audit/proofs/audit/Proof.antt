@@ -2,6 +2,7 @@
 use mathlib.Core.Path.{_≡_, refl, _∙_}
 use native.Mathlib.Omega.{arith}
 use borrow.Author.Needs.{needs}
+use Rattle.types.proofs.Saying.{answers}
 use Rattle.list.specs.List.{recordsOf}
 use Rattle.graph.specs.Chain.{opened, Listed}
 use Rattle.graph.proofs.Views.{list-listed}
@@ -25,12 +26,12 @@ goes c =
 
 returns : tie.Need-returns
 returns c =
-    (c .refused .ensures
-    ∙ verify-refused 32 _ _ (opened-list 32 _ _ (c .before .before .before .check .ensures) (c .before .if1 .taken)) (c .before .if1 .taken))
+    answers ((c .refused .ensures
+    ∙ verify-refused 32 _ _ (opened-list 32 _ _ (c .before .before .before .check .ensures) (c .before .if1 .taken)) (c .before .if1 .taken)))
 
 returns-2 : tie.Need-returns-2
 returns-2 c =
-    (c .refused2 .ensures ∙ verify-refused 32 _ _ (goes (c .before .before .before .before)) (c .before .if2 .taken))
+    answers ((c .refused2 .ensures ∙ verify-refused 32 _ _ (goes (c .before .before .before .before)) (c .before .if2 .taken)))
 
 verify-from-requires : tie.Need-verify-from-requires
 verify-from-requires c κs =
@@ -41,7 +42,7 @@ returns-3 : tie.Need-returns-3
 returns-3 c =
     let at-if2 = c .before .before .before .before .before .before .before in
     let at-survey = at-if2 .before .before .before in
-    (verify-files 32 _ _ (goes at-survey) (at-if2 .if2 .left) (c .verify-from .ensures))
+    answers ((verify-files 32 _ _ (goes at-survey) (at-if2 .if2 .left) (c .verify-from .ensures)))
 
 pub audit-spec : {M : Type 1} → statement M
 audit-spec =

@@ -2,6 +2,7 @@
 use mathlib.Core.Path.{_≡_, ap, _∙_}
 use native.Mathlib.Omega.{arith}
 use denote.Ref.{now}
+use Rattle.types.proofs.Saying.{answers}
 use Rattle.fit.specs.Fits.{fanPart, idsPart, rowsPart}
 use Rattle.fit.proofs.Fitting.{Answered, answered}
 use Rattle.rules.specs.Rules.{entryIn}
@@ -12,7 +13,7 @@ use Rattle.marks.proofs.entry_at.Statement.{statement}
 use Rattle.marks.proofs.entry_at.Tie as tie
 
 returns : tie.Need-returns
-returns c = ap Refused (c .at .ensures) ∙ entry-out _ _ _ (c .before .before .ask .ensures) (c .before .if1 .taken)
+returns c = answers (ap Refused (c .at .ensures) ∙ entry-out _ _ _ (c .before .before .ask .ensures) (c .before .if1 .taken))
 
 add-part : tie.Need-add-part
 add-part c =
@@ -33,10 +34,10 @@ asked c =
 returns-2 : tie.Need-returns-2
 returns-2 c =
     let k = asked (c .before .before .before) in
-    ap Refused (c .at2 .ensures) ∙ entry-bad _ _ _ (k .0) (k .1) (c .before .before .if2 .taken)
+    answers (ap Refused (c .at2 .ensures) ∙ entry-bad _ _ _ (k .0) (k .1) (c .before .before .if2 .taken))
 
 returns-3 : tie.Need-returns-3
-returns-3 c = let k = asked (c .before) in entry-fine _ _ _ (k .0) (k .1) (c .if2 .left)
+returns-3 c = answers (let k = asked (c .before) in entry-fine _ _ _ (k .0) (k .1) (c .if2 .left))
 
 pub entry-at-spec : {M : Type 1} → statement M
 entry-at-spec =

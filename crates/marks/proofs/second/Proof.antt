@@ -17,7 +17,7 @@ use Rattle.marks.proofs.second.Tie as tie
 row : (c : tie.After-c)
     → (let a = c .before .before .before .before .args in
     Answered (now (a .s)) (a .f) (a .f .commits) (a .pos .0) × (c .c .given .0 .0 ≡ rowOf (now (a .s)) (a .f) (a .pos .0)))
-row c = commit-given _ _ _ (c .before .before .commit-at .ensures) (c .c .given .1)
+row c = commit-given _ _ _ (c .before .before .commit-at .ensures .is) (c .c .given .1)
 
 field-requires : tie.Need-field-requires
 field-requires c κs = field-fits (row (c .before .before .before) .0) 4 (omega arith) (omega arith)
@@ -36,7 +36,7 @@ returns : tie.Need-returns
 returns c =
     let known = c .before .before .before in
     let w = step-word _ _ _ Second (λ i. known .shared-slice-known .given i .fits) (known .before .pre .1) .0 in
-    absurd (omega (arith, w .rule, commit-barred _ _ _ (c .before .before .commit-at .ensures) (c .enum-told .given .1) .0))
+    absurd (omega (arith, w .rule, commit-barred _ _ _ (c .before .before .commit-at .ensures .is) (c .enum-told .given .1) .0))
 
 returns-2 : tie.Need-returns-2
 unfolding secondAt

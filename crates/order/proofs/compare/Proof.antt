@@ -5,6 +5,7 @@ use Prim.Native.Nat.{_-_}
 use mathlib.Core.Path.{refl, sym, _∙_}
 use native.Mathlib.Omega.{arith}
 use borrow.Author.Needs.{needs}
+use Rattle.types.proofs.Saying.{answers}
 use Rattle.words.specs.Big.{be}
 use Rattle.order.proofs.Ordered.{Comparing, compare-less, compare-greater, compare-on, compare-equal, compare-longer}
 use Rattle.order.proofs.compare.Statement.{statement}
@@ -23,14 +24,14 @@ loop-holds c = record { few = omega arith; reach = c .reach .ensures; same = ref
 returns : tie.Need-returns Inv-loop μ-loop
 returns c =
     let l = c .before .before .before .before .loop in
-    compare-less (l .inv) (λ i. c .before .before .shared-slice-known3 .given i .fits) (λ i. c .before .shared-slice-known4 .given i .fits)
-    (omega arith) (c .if1 .taken)
+    answers (compare-less (l .inv) (λ i. c .before .before .shared-slice-known3 .given i .fits) (λ i. c .before .shared-slice-known4 .given i .fits)
+    (omega arith) (c .if1 .taken))
 
 returns-2 : tie.Need-returns-2 Inv-loop μ-loop
 returns-2 c =
     let read = c .before .before in
-    compare-greater (read .before .before .before .loop .inv) (λ i. read .before .shared-slice-known3 .given i .fits)
-    (λ i. read .shared-slice-known4 .given i .fits) (omega arith) (c .if2 .taken)
+    answers (compare-greater (read .before .before .before .loop .inv) (λ i. read .before .shared-slice-known3 .given i .fits)
+    (λ i. read .shared-slice-known4 .given i .fits) (omega arith) (c .if2 .taken))
 
 loop-again : tie.Need-loop-again Inv-loop μ-loop
 loop-again c =
@@ -38,10 +39,10 @@ loop-again c =
     compare-on (l .inv) (omega arith) (c .if2 .left) (c .before .if1 .left)
 
 returns-3 : tie.Need-returns-3 Inv-loop μ-loop
-returns-3 c = compare-equal (c .before .before .before .before .loop .inv) (omega arith) (sym (c .if3 .taken) ∙ c .before .zero .ensures)
+returns-3 c = answers (compare-equal (c .before .before .before .before .loop .inv) (omega arith) (sym (c .if3 .taken) ∙ c .before .zero .ensures))
 
 returns-4 : tie.Need-returns-4 Inv-loop μ-loop
-returns-4 c = compare-longer (c .before .before .before .before .loop .inv) (omega arith) (sym (c .if3 .left) ∙ c .before .zero .ensures)
+returns-4 c = answers (compare-longer (c .before .before .before .before .loop .inv) (omega arith) (sym (c .if3 .left) ∙ c .before .zero .ensures))
 
 pub compare-spec : {M : Type 1} → statement M
 compare-spec =

@@ -11,7 +11,7 @@ returns-2 : tie.Need-returns-2
 returns-2 c =
     let found = c .before .before .before in
     part-open _ _ (found .before .before .before .check .ensures)
-    (simp (c .part-at .ensures, c .before .size .ensures, c .before .before .start .ensures, found .find .ensures))
+    (simp (c .part-at .ensures, c .before .size .ensures, c .before .before .start .ensures, found .find .ensures .is))
     (found .before .if1 .left)
 
 pub chunk-part-spec : {M : Type 1} → statement M

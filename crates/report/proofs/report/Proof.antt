@@ -21,7 +21,7 @@ part-verify-end-2 c =
 returns : tie.Need-returns
 returns c =
     let sized = c .before .before .before .before .before in
-    let v = taken _ (sized .be32 .ensures) (c .before .verify .ensures .0) in
+    let v = taken _ (sized .be32 .ensures) (c .before .verify .ensures .0 .is) in
     printed _ (output-read _ (sized .before .before .parts .ensures) (sized .before .if1 .taken) v) (c .answer .ensures)
 
 returns-2 : tie.Need-returns-2

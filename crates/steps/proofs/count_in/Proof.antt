@@ -6,6 +6,7 @@ use Prim.Native.Nat.{_+_, _≤_}
 use mathlib.Core.Path.{_≡_, refl, sym, _∙_}
 use native.Mathlib.Omega.{arith}
 use borrow.Author.Needs.{needs}
+use Rattle.types.proofs.Saying.{answers}
 use Rattle.steps.specs.Walks.{countOf, wordsIn, firstWalk, restOf, countFrom}
 use Rattle.steps.proofs.Walking.{mostFrom, count-next, count-stop, count-end, next-less}
 use Rattle.steps.proofs.count_in.Statement.{statement}
@@ -24,7 +25,7 @@ unfolding mostFrom restOf
 loop-holds c = (omega arith, refl)
 
 loop-less : tie.Need-loop-less Inv-loop μ-loop
-loop-less c = next-less _ _ _ _ _ (c .before .before .step-in .ensures) (c .enum-told .given .1)
+loop-less c = next-less _ _ _ _ _ (c .before .before .step-in .ensures .is) (c .enum-told .given .1)
 
 add-n : tie.Need-add-n Inv-loop μ-loop
 add-n c = omega (arith, loop-less c, c .before .before .before .loop .inv .0)
@@ -33,20 +34,20 @@ loop-again : tie.Need-loop-again Inv-loop μ-loop
 loop-again c =
     let stepped = c .before .before in (
       omega (arith, loop-less c, stepped .before .loop .inv .0),
-      sym (count-next _ _ _ _ _ (stepped .step-in .ensures) _ (c .enum-told .given .1)) ∙ stepped .before .loop .inv .1,
+      sym (count-next _ _ _ _ _ (stepped .step-in .ensures .is) _ (c .enum-told .given .1)) ∙ stepped .before .loop .inv .1,
     )
 
 returns : tie.Need-returns Inv-loop μ-loop
 unfolding countOf
 returns c =
     let stepped = c .before .before .before in
-    count-stop _ _ _ _ _ (stepped .step-in .ensures) _ (c .before .met .given .1) ∙ stepped .before .loop .inv .1
+    answers (count-stop _ _ _ _ _ (stepped .step-in .ensures .is) _ (c .before .met .given .1) ∙ stepped .before .loop .inv .1)
 
 returns-2 : tie.Need-returns-2 Inv-loop μ-loop
 unfolding countOf
 returns-2 c =
     let stepped = c .before .before in
-    count-end _ _ _ _ _ (stepped .step-in .ensures) _ (c .enum-told2 .given .1) ∙ stepped .before .loop .inv .1
+    answers (count-end _ _ _ _ _ (stepped .step-in .ensures .is) _ (c .enum-told2 .given .1) ∙ stepped .before .loop .inv .1)
 
 pub count-in-spec : {M : Type 1} → statement M
 count-in-spec =

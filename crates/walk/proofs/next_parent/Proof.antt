@@ -4,6 +4,9 @@
 -- from it; the two slices are lent to `step` and kept; what `step` answered is taken apart, its walk stored and its answer returned; the borrow is
 -- closed at the next walk; the locals are freed, and what is left is what the contract says at exit.
 -- All that the proof knows of `step` is that it meets its contract. A comment in brackets is the context there, entry 0 first.
+use Rattle.walk.specs.Said.{stepSaid}
+use Rattle.types.specs.Said.{Answers}
+use Rattle.types.proofs.Saying.{answers}
 use Rattle.walk.proofs.Doors.{_≡_, refl, ap, ℕ, [], _∷_, List, URA, named, Val, vptr, SProp, ent, emp, via, fst∗, id⊢, GName, Lft, Share, Fml, fsep}
 use Rattle.walk.proofs.Doors.{flft, Memory, Routine, Heap, Calls, Loops, WpFn, Tables, Atoms, sem, Fun, fact, givenOf, tables, Given, Item, ‵, raw}
 use Rattle.walk.proofs.Doors.{_⊛_, ⋆, some, later, _$_, _∵_, !, qed, by, move, keep, drop, use1, use3, split, join, pick, rewrite, fsplit, fjoin}
@@ -74,8 +77,8 @@ module _ {M : Type 1} (𝓤 : URA M) (H : Heap 𝓤) (A : Atoms 𝓤) (W : Given
     abbrev Ensured : Step → SProp 𝓤
     Ensured = ensured 𝓤 H A step.ended (step.clauses 𝓤 H A at-mem run) (κ₁, (κ₂, tt)) (h, (ch, (li, tt))) tt
 
-    said : (r : Step) → ent 𝓤 (Ensured r) (fact 𝓤 (r ≡ found))
-    said r = exE 𝓤 _ (λ ws. snd∗ 𝓤 (sem 𝓤 H A (lasts step.ended (κ₁, (κ₂, tt)) (h, (ch, (li, tt))) ws)) (fact 𝓤 (r ≡ found)))
+    said : (r : Step) → ent 𝓤 (Ensured r) (fact 𝓤 (Answers stepSaid r found))
+    said r = exE 𝓤 _ (λ ws. snd∗ 𝓤 (sem 𝓤 H A (lasts step.ended (κ₁, (κ₂, tt)) (h, (ch, (li, tt))) ws)) (fact 𝓤 (Answers stepSaid r found)))
 
     -- what is left at exit: the borrow closed at the next walk, and what was lent
     abbrev left : Step → List (Item 𝓤)
@@ -86,7 +89,7 @@ module _ {M : Type 1} (𝓤 : URA M) (H : Heap 𝓤) (A : Atoms 𝓤) (W : Given
         qed W (left r) ∵ suffices ! _
         (ends-at 𝓤 H A np.ended stayed (np.clauses 𝓤 H A at-mem run) W (((κ, (κ₁, (κ₂, tt))), (q, (q₁, (q₂, tt))), tt, x, at), tt)
         (answerV (r .answer)) _ (r .next, (tt, (tt, tt))) (tt, (tt, (tt, tt)))) $
-        says ! (ap (λ (s : Step). s .answer) e, ap (λ (s : Step). s .next) e) $ move ! (2 ∷ 3 ∷ []) $ join ! $ frame ! $
+        says ! (answers (ap (λ (s : Step). s .answer) e), ap (λ (s : Step). s .next) e) $ move ! (2 ∷ 3 ∷ []) $ join ! $ frame ! $
         feqI ! (List Val) (vptr b o ∷ []) (vptr b o ∷ []) refl $ fjoin3 ! $ fjoin ! $ own-answer ! (r .answer) _ is $ move ! (1 ∷ 0 ∷ []) $
         done !
 
@@ -113,7 +116,7 @@ module _ {M : Type 1} (𝓤 : URA M) (H : Heap 𝓤) (A : Atoms 𝓤) (W : Given
           (and-then ! (reads ! 8 refl) (and-then ! (reads ! 12 refl) (and-then ! (reads ! 10 refl) (no-more !)))) (λ u.
           use1 W (later (some (λ (r : Step). (toks ⊛ ‵ (stepT .own r (u ∷ []))) ⊛ raw (Ensured r)))) (id⊢ 𝓤 _) $
           await ! tt $ pick ! (λ r. split ! $ move ! (1 ∷ []) $
-          use1 W (raw (fact 𝓤 (r ≡ found))) (said r) $ heard ! (r ≡ found) (λ e. split ! $ move ! (1 ∷ []) $
+          use1 W (raw (fact 𝓤 (Answers stepSaid r found))) (said r) $ heard ! (Answers stepSaid r found) (λ e. split ! $ move ! (1 ∷ []) $
           -- [what the step owns; the slices' tokens; Both; the walk's cell; the open borrow; obs; auth; _5; …; _4; …; _3; …; _2; …; _1; …;
           -- room for _0; …]
           peeks ! stepT (Is stepT) (shows 𝓤 H A stepT) r (u ∷ []) (λ is.
@@ -129,7 +132,7 @@ module _ {M : Type 1} (𝓤 : URA M) (H : Heap 𝓤) (A : Atoms 𝓤) (W : Given
           -- [obs; the borrow; its token; what the step owns; the slices' tokens; Both; _5; …; _4; …; _3; …; _2; …; _1; …; _0; …]
           returns ! (look ! 16 refl) $ frees ! 16 refl refl $ frees ! 14 refl refl $ frees ! 12 refl refl $ frees ! 10 refl refl $
           frees ! 8 refl refl $ frees ! 6 refl refl $ free0 ! $
-          keep ! (0 ∷ 1 ∷ 2 ∷ 4 ∷ 5 ∷ []) $ by ! (exits e (apart r _ is .0))))))))))))))
+          keep ! (0 ∷ 1 ∷ 2 ∷ 4 ∷ 5 ∷ []) $ by ! (exits (e .is) (apart r _ is .0))))))))))))))
 
   meets : (𝓣 : Tables 𝓤 H) → Triple 𝓤 (𝓣 .C called.name) StepC
       → Meets 𝓤 H A np.signature (WpFn 𝓤 H (𝓣 .C) (𝓣 .Λ) code.function) (np.spec 𝓤 H A at-mem run)

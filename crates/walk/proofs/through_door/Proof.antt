@@ -4,6 +4,9 @@
 -- lent and kept; the lifetime is ended, so that `_4` comes back at the last walk that the callee's contract says; it is read and put beside the
 -- answer; the locals are freed, and what is left is what the contract says at exit.
 -- All that the proof knows of `next_parent` is that it meets its contract. A comment in brackets is the context there, entry 0 first.
+use Rattle.parents.specs.Said.{answerSaid}
+use Rattle.types.specs.Said.{Answers}
+use Rattle.types.proofs.Saying.{answers}
 use Rattle.walk.proofs.Doors.{_≡_, refl, ap, ℕ, [], _∷_, List, URA, fullShare, named, Val, vptr, SProp, ent, emp, via, fst∗, id⊢, GName, Lft, Share}
 use Rattle.walk.proofs.Doors.{Fml, fsep, flft, Memory, Routine, Heap, Calls, Loops, WpFn, Tables, Atoms, sem, Fun, fact, givenOf, tables, Given, Item}
 use Rattle.walk.proofs.Doors.{‵, raw, _⊛_, ⋆, some, later, _$_, _∵_, !, qed, by, move, keep, drop, use1, use3, split, join, pick, rewrite, fsplit}
@@ -78,14 +81,14 @@ module _ {M : Type 1} (𝓤 : URA M) (H : Heap 𝓤) (A : Atoms 𝓤) (W : Given
 
     -- what `next_parent` says of its answer and of the last walk
     abbrev Said : Step → Type 0
-    Said r = (r .answer ≡ found .answer) × (r .next ≡ found .next)
+    Said r = Answers answerSaid (r .answer) (found .answer) × (r .next ≡ found .next)
 
     -- an answer and the last walk
     abbrev both-of : Answer → Walk × (Unit {0} × (Unit {0} × Unit {0})) → Step
     both-of a zs = record { answer = a; next = zs .0 }
 
     all : (r : Step) → Said r → r ≡ found
-    all r e i = record { answer = e .0 i; next = e .1 i }
+    all r e i = record { answer = e .0 .is i; next = e .1 i }
 
     -- the local's block b, lent for the lifetime ν under the name δ
     module _ (b ν : ℕ) (δ : GName) where
@@ -116,7 +119,7 @@ module _ {M : Type 1} (𝓤 : URA M) (H : Heap 𝓤) (A : Atoms 𝓤) (W : Given
     exits {r} e is =
         qed W (toks ∷ ‵ Both ∷ []) ∵ suffices ! _
         (ends-at 𝓤 H A td.ended stayed (td.clauses 𝓤 H A at-mem run) W (((κ₁, (κ₂, tt)), (q₁, (q₂, tt)), tt, x, at), tt) (stepV r) r
-        (tt, (tt, (tt, tt))) (tt, (tt, (tt, tt)))) $ says ! e $ frame ! $ own-walk ! h _ g $ fjoin ! $ own-step ! r _ is $ move ! (1 ∷ 0 ∷ [])
+        (tt, (tt, (tt, tt))) (tt, (tt, (tt, tt)))) $ says ! (answers e) $ frame ! $ own-walk ! h _ g $ fjoin ! $ own-step ! r _ is $ move ! (1 ∷ 0 ∷ [])
         $ done !
 
     module _ (C : Calls 𝓤 H) (Λ : Loops 𝓤 H) (fm : FmC 𝓤 H (W .laws) C) (known : Triple 𝓤 (C called.name) NextC) where

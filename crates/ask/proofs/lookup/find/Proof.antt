@@ -2,6 +2,9 @@
 use mathlib.Core.Path.{_≡_}
 use native.Mathlib.Omega.{arith}
 use denote.Ref.{now}
+use Rattle.ask.specs.Said.{foundSaid}
+use Rattle.types.specs.Said.{Answers}
+use Rattle.types.proofs.Saying.{also}
 use Rattle.graph.specs.Chain.{opened}
 use Rattle.graph.proofs.Views.{list-listed, opened-list, opened-pass}
 use Rattle.ask.specs.Lookups.{lookupOf}
@@ -17,9 +20,10 @@ use Rattle.ask.proofs.lookup.find.Tie as tie
 right : (c : tie.After-check) {r : Found}
     → (let a = c .before .before .before .before .args in
     r ≡ lookupOf 32 (now (a .chain)) (now (a .list)) (now (a .x))
-    → (r ≡ lookupOf 32 (now (a .chain)) (now (a .list)) (now (a .x))) × Right 32 (now (a .chain)) (now (a .list)) (now (a .x)) r)
+    → Answers foundSaid r (lookupOf 32 (now (a .chain)) (now (a .list)) (now (a .x))) × Right 32 (now (a .chain)) (now (a .list)) (now (a .x)) r)
 right c e =
-    promised 32 _ _ _ (λ i. c .before .before .before .shared-slice-known .given i .fits) (λ i. c .before .shared-slice-known3 .given i .fits) e
+    also
+    (promised 32 _ _ _ (λ i. c .before .before .before .shared-slice-known .given i .fits) (λ i. c .before .shared-slice-known3 .given i .fits) e)
 
 -- where the list is not refused, the files' refusal is the chain's
 files : (c : tie.After-look)

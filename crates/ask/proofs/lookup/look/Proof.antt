@@ -33,7 +33,7 @@ file-k : (c : tie.After-open Inv-loop μ-loop) {v : Opening} → c .«open» .re
     → (let turn = c .before .before .before in
     let start = turn .before .before .before .before .before in
     openAt (start .args .z) (start .args .chain .now) (start .args .list .now) (turn .before .loop .k) ≡ v)
-file-k c e = open-is _ _ _ _ (part-k (c .before)) (c .«open» .ensures) e
+file-k c e = open-is _ _ _ _ (part-k (c .before)) (c .«open» .ensures .is) e
 
 loop-holds : tie.Need-loop-holds Inv-loop μ-loop
 loop-holds c = look-begins (c .before .before .before .pre) _ _ refl

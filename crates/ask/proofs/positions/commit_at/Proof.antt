@@ -1,5 +1,6 @@
 -- `ask::positions::commit_at` meets its contract.
 use mathlib.Core.Path.{sym, _∙_}
+use Rattle.types.proofs.Saying.{answers}
 use Rattle.ask.proofs.Reading.{commit-none, commit-part}
 use borrow.Author.Needs.{needs}
 use Rattle.ask.proofs.positions.commit_at.Statement.{statement}
@@ -8,14 +9,14 @@ use Rattle.ask.proofs.positions.commit_at.Tie as tie
 returns : tie.Need-returns
 returns c =
     let located = c .before .before .before in
-    commit-none 32 (located .before .before .before .args .chain) _ _ (sym (located .locate .ensures) ∙ c .before .q .given .1)
+    answers (commit-none 32 (located .before .before .before .args .chain) _ _ (sym (located .locate .ensures .is) ∙ c .before .q .given .1))
 
 returns-2 : tie.Need-returns-2
 returns-2 c =
     let cut = c .before .before .before in
     let spotted = cut .before .before in
-    commit-part 32 _ _ _ (sym (spotted .before .before .locate .ensures) ∙ spotted .spot .given .1) (cut .part .ensures)
-    (c .commit-at .ensures)
+    answers (commit-part 32 _ _ _ (sym (spotted .before .before .locate .ensures .is) ∙ spotted .spot .given .1) (cut .part .ensures)
+    (c .commit-at .ensures .is))
 
 pub commit-at-spec : {M : Type 1} → statement M
 commit-at-spec =

@@ -28,7 +28,7 @@ returns-2 c =
     let at-if1 = at-x .before .before .before in
     let start = at-if1 .before .before .before .before .before .before .before .before in
     tried-walk _ _ _ _ _ _ _ _ _ _ _ (start .pre .1 .0) _ (start .pre .1 .1) (at-if1 .before .entry-in .ensures) (at-if1 .if1 .left)
-    (at-x .before .before .commit-in .ensures) (at-x .x .given .1) (at-meet .meet .ensures) _ (c .before .if2 .taken) (c .stopped3 .ensures)
+    (at-x .before .before .commit-in .ensures .is) (at-x .x .given .1) (at-meet .meet .ensures) _ (c .before .if2 .taken) (c .stopped3 .ensures)
 
 returns-3 : tie.Need-returns-3
 returns-3 c =
@@ -38,7 +38,7 @@ returns-3 c =
     let at-if1 = at-x .before .before .before in
     let start = at-if1 .before .before .before .before .before .before .before .before in
     tried-gen _ _ _ _ _ _ _ _ _ _ _ (start .pre .1 .0) _ (start .pre .1 .1) (at-if1 .before .entry-in .ensures) (at-if1 .if1 .left)
-    (at-x .before .before .commit-in .ensures) (at-x .x .given .1) (at-meet .meet .ensures) (at-right .before .if2 .left)
+    (at-x .before .before .commit-in .ensures .is) (at-x .x .given .1) (at-meet .meet .ensures) (at-right .before .if2 .left)
     (at-right .right .ensures) _ (c .before .if3 .taken) (c .stopped4 .ensures)
 
 returns-4 : tie.Need-returns-4
@@ -47,7 +47,7 @@ returns-4 c =
     let at-if1 = at-r .before .before .before in
     let start = at-if1 .before .before .before .before .before .before .before .before in
     let z : ⊥ = tried-none _ _ _ _ _ _ _ _ _ _ _ (start .pre .1 .0) _ (start .pre .1 .1) (at-if1 .before .entry-in .ensures)
-    (at-if1 .if1 .left) (at-r .before .before .commit-in .ensures) (at-r .r .given .1) in
+    (at-if1 .if1 .left) (at-r .before .before .commit-in .ensures .is) (at-r .r .given .1) in
     absurd z
 
 returns-5 : tie.Need-returns-5
@@ -57,7 +57,7 @@ returns-5 c =
     let at-if1 = at-x .before .before .before in
     let start = at-if1 .before .before .before .before .before .before .before .before in
     tried-fine _ _ _ _ _ _ _ _ _ _ _ (start .pre .1 .0) _ (start .pre .1 .1) (at-if1 .before .entry-in .ensures) (at-if1 .if1 .left)
-    (at-x .before .before .commit-in .ensures) (at-x .x .given .1) (at-if2 .before .before .meet .ensures) (at-if2 .if2 .left)
+    (at-x .before .before .commit-in .ensures .is) (at-x .x .given .1) (at-if2 .before .before .meet .ensures) (at-if2 .if2 .left)
     (c .before .before .right .ensures) _ (c .if3 .left) refl refl refl
 
 pub attempt-spec : {M : Type 1} → statement M

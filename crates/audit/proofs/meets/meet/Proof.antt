@@ -32,7 +32,7 @@ returns c =
     let at-met = c .before .before .before .before in
     let at-loop = at-met .before .before .before in
     let start = at-loop .before .before .before .before .before in
-    met-out _ _ _ _ _ _ _ (rest-parent _ _ _ _ _ (at-met .before .before .step-in .ensures) (at-met .met .given .1))
+    met-out _ _ _ _ _ _ _ (rest-parent _ _ _ _ _ (at-met .before .before .step-in .ensures .is) (at-met .met .given .1))
     (omega (arith, c .if1 .taken, start .pre .0 .first (start .args .home + 1) (omega (arith, start .pre .1 .1)))) ∙ at-loop .loop .inv .0
 
 gen-at-requires : tie.Need-gen-at-requires Inv-loop μ-loop
@@ -53,7 +53,7 @@ add-parents c =
     let start = at-loop .before .before .before .before .before in
     omega (
       arith,
-      next-less _ _ _ _ _ (at-met .before .before .step-in .ensures) (at-met .met .given .1),
+      next-less _ _ _ _ _ (at-met .before .before .step-in .ensures .is) (at-met .met .given .1),
       at-loop .loop .inv .1,
       start .good .1 .1 .1 .1 .1 .1 .1 .1 .1 .1 .0,
     )
@@ -61,7 +61,7 @@ add-parents c =
 loop-less : tie.Need-loop-less Inv-loop μ-loop
 loop-less c =
     let at-met = c .before .before .before .before .before .before in
-    next-less _ _ _ _ _ (at-met .before .before .step-in .ensures) (at-met .met .given .1)
+    next-less _ _ _ _ _ (at-met .before .before .step-in .ensures .is) (at-met .met .given .1)
 
 loop-again : tie.Need-loop-again Inv-loop μ-loop
 loop-again c =
@@ -79,11 +79,11 @@ loop-again c =
 returns-2 : tie.Need-returns-2 Inv-loop μ-loop
 returns-2 c =
     let at-step-in = c .before .before .before in
-    met-end _ _ _ _ _ _ (rest-stop _ _ _ _ _ (at-step-in .step-in .ensures) (c .before .met2 .given .1)) ∙ at-step-in .before .loop .inv .0
+    met-end _ _ _ _ _ _ (rest-stop _ _ _ _ _ (at-step-in .step-in .ensures .is) (c .before .met2 .given .1)) ∙ at-step-in .before .loop .inv .0
 
 returns-3 : tie.Need-returns-3 Inv-loop μ-loop
 returns-3 c =
-    met-end _ _ _ _ _ 0 (rest-end _ _ _ _ _ (c .before .before .step-in .ensures) (c .enum-told .given .1))
+    met-end _ _ _ _ _ 0 (rest-end _ _ _ _ _ (c .before .before .step-in .ensures .is) (c .enum-told .given .1))
     ∙ c .before .before .before .loop .inv .0
 
 pub meet-spec : {M : Type 1} → statement M

@@ -6,7 +6,7 @@ use Rattle.exports.proofs.single.jampreso_entry.Statement.{statement}
 use Rattle.exports.proofs.single.jampreso_entry.Tie as tie
 
 returns : tie.Need-returns
-returns c = c .entry-flat .ensures ∙ ap flatEntry (c .before .nth .ensures)
+returns c = c .entry-flat .ensures ∙ ap flatEntry (c .before .nth .ensures .is)
 
 pub jampreso-entry-spec : {M : Type 1} → statement M
 jampreso-entry-spec = tie.close (tie.spec (search needs) (search needs) returns)

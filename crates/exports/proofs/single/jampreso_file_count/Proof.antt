@@ -6,7 +6,7 @@ use Rattle.exports.proofs.single.jampreso_file_count.Statement.{stateme
 use Rattle.exports.proofs.single.jampreso_file_count.Tie as tie
 
 returns : tie.Need-returns
-returns c = rw (← c .before .before .file-of .ensures) (c .total-flat .ensures ∙ ap flatTotal (c .before .count-at .ensures))
+returns c = rw (← c .before .before .file-of .ensures) (c .total-flat .ensures ∙ ap flatTotal (c .before .count-at .ensures .is))
 
 pub jampreso-file-count-spec : {M : Type 1} → statement M
 jampreso-file-count-spec = tie.close (tie.spec (search needs) (search needs) (search needs) returns)

@@ -6,7 +6,7 @@ use Rattle.exports.proofs.single.jampreso_file_date.Statement.{statemen
 use Rattle.exports.proofs.single.jampreso_file_date.Tie as tie
 
 returns : tie.Need-returns
-returns c = rw (← c .before .before .file-of .ensures) (c .mark-flat .ensures ∙ ap flatMark (c .before .date-at .ensures))
+returns c = rw (← c .before .before .file-of .ensures) (c .mark-flat .ensures ∙ ap flatMark (c .before .date-at .ensures .is))
 
 pub jampreso-file-date-spec : {M : Type 1} → statement M
 jampreso-file-date-spec = tie.close (tie.spec (search needs) (search needs) (search needs) returns)

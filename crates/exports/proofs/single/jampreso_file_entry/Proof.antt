@@ -6,7 +6,7 @@ use Rattle.exports.proofs.single.jampreso_file_entry.Statement.{stateme
 use Rattle.exports.proofs.single.jampreso_file_entry.Tie as tie
 
 returns : tie.Need-returns
-returns c = rw (← c .before .before .file-of .ensures) (c .asked-flat .ensures ∙ ap flatAsked (c .before .entry-at .ensures))
+returns c = rw (← c .before .before .file-of .ensures) (c .asked-flat .ensures ∙ ap flatAsked (c .before .entry-at .ensures .is))
 
 pub jampreso-file-entry-spec : {M : Type 1} → statement M
 jampreso-file-entry-spec = tie.close (tie.spec (search needs) (search needs) (search needs) returns)

@@ -9,7 +9,7 @@ returns : tie.Need-returns
 returns c =
     let listed = c .before .before .before in
     rw (← listed .before .before .file-of .ensures)
-    (c .total-flat .ensures ∙ ap flatTotal (listed .list-at .ensures .0), listed .list-at .ensures .1)
+    (c .total-flat .ensures ∙ ap flatTotal (listed .list-at .ensures .0 .is), listed .list-at .ensures .1)
 
 pub jampreso-file-list-spec : {M : Type 1} → statement M
 jampreso-file-list-spec =

@@ -9,7 +9,7 @@ use Rattle.exports.proofs.single.jampreso_file_open.Tie as tie
 returns : tie.Need-returns
 returns c =
     opened _ (λ i. c .before .before .shared-slice-known .given i .fits)
-    (c .opened-flat .ensures ∙ ap flatOpened (c .before .«open» .ensures))
+    (c .opened-flat .ensures ∙ ap flatOpened (c .before .«open» .ensures .is))
 
 pub jampreso-file-open-spec : {M : Type 1} → statement M
 jampreso-file-open-spec = tie.close (tie.spec (search needs) (search needs) returns)

@@ -8,8 +8,8 @@ use Rattle.exports.proofs.single.jampreso_file_step.Tie as tie
 
 returns : tie.Need-returns
 returns c =
-    rw (← c .before .before .before .file-of .ensures, ← c .before .before .phase-of .ensures)
-    (stepped _ (c .stepped-flat .ensures ∙ ap flatStepped (c .before .step-at .ensures)))
+    rw (← c .before .before .before .file-of .ensures, ← c .before .before .phase-of .ensures .is)
+    (stepped _ (c .stepped-flat .ensures ∙ ap flatStepped (c .before .step-at .ensures .is)))
 
 pub jampreso-file-step-spec : {M : Type 1} → statement M
 jampreso-file-step-spec =

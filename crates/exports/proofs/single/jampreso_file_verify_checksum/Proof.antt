@@ -6,7 +6,7 @@ use Rattle.exports.proofs.single.jampreso_file_verify_checksum.Statemen
 use Rattle.exports.proofs.single.jampreso_file_verify_checksum.Tie as tie
 
 returns : tie.Need-returns
-returns c = rw (← c .before .before .file-of .ensures) (c .asked-flat .ensures ∙ ap flatAsked (c .before .verify-checksum .ensures))
+returns c = rw (← c .before .before .file-of .ensures) (c .asked-flat .ensures ∙ ap flatAsked (c .before .verify-checksum .ensures .is))
 
 pub jampreso-file-verify-checksum-spec : {M : Type 1} → statement M
 jampreso-file-verify-checksum-spec =

@@ -7,8 +7,8 @@ use Rattle.exports.proofs.single.jampreso_file_word.Tie as tie
 
 returns : tie.Need-returns
 returns c =
-    rw (← c .before .before .before .file-of .ensures, ← c .before .before .phase-of .ensures)
-    (c .mark-flat .ensures ∙ ap flatMark (c .before .word-at .ensures .0))
+    rw (← c .before .before .before .file-of .ensures, ← c .before .before .phase-of .ensures .is)
+    (c .mark-flat .ensures ∙ ap flatMark (c .before .word-at .ensures .0 .is))
 
 pub jampreso-file-word-spec : {M : Type 1} → statement M
 jampreso-file-word-spec =

@@ -6,7 +6,7 @@ use Rattle.exports.proofs.whole.jampreso_commit.Statement.{statement}
 use Rattle.exports.proofs.whole.jampreso_commit.Tie as tie
 
 returns : tie.Need-returns
-returns c = c .commit-flat .ensures ∙ ap flatCommit (c .before .commit-at .ensures)
+returns c = c .commit-flat .ensures ∙ ap flatCommit (c .before .commit-at .ensures .is)
 
 pub jampreso-commit-spec : {M : Type 1} → statement M
 jampreso-commit-spec = tie.close (tie.spec (search needs) (search needs) returns)

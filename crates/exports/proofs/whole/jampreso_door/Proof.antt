@@ -14,7 +14,7 @@ returns c =
     walked 32 _ _ _
     (c .walked-flat .ensures
     ∙ ap flatWalked
-    (c .before .through-door .ensures
+    (c .before .through-door .ensures .is
     ∙ ap (stepOf 32 (now (start .args .chain)) (now (start .args .list))) (c .before .before .walk-at .ensures)))
 
 pub jampreso-door-spec : {M : Type 1} → statement M

@@ -8,7 +8,7 @@ use Rattle.exports.proofs.whole.jampreso_list.Tie as tie
 returns : tie.Need-returns
 returns c =
     let listed = c .before .before .before in
-    (c .total-flat .ensures ∙ ap flatTotal (listed .list-at .ensures .0), listed .list-at .ensures .1)
+    (c .total-flat .ensures ∙ ap flatTotal (listed .list-at .ensures .0 .is), listed .list-at .ensures .1)
 
 pub jampreso-list-spec : {M : Type 1} → statement M
 jampreso-list-spec = tie.close (tie.spec (search needs) (search needs) (search needs) returns)

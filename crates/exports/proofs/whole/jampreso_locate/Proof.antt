@@ -6,7 +6,7 @@ use Rattle.exports.proofs.whole.jampreso_locate.Statement.{statement}
 use Rattle.exports.proofs.whole.jampreso_locate.Tie as tie
 
 returns : tie.Need-returns
-returns c = c .located-flat .ensures ∙ ap flatLocated (c .before .locate .ensures)
+returns c = c .located-flat .ensures ∙ ap flatLocated (c .before .locate .ensures .is)
 
 pub jampreso-locate-spec : {M : Type 1} → statement M
 jampreso-locate-spec = tie.close (tie.spec (search needs) (search needs) returns)

@@ -6,7 +6,7 @@ use Rattle.exports.proofs.whole.jampreso_open.Statement.{statement}
 use Rattle.exports.proofs.whole.jampreso_open.Tie as tie
 
 returns : tie.Need-returns
-returns c = c .opening-flat .ensures ∙ ap flatOpening (c .before .«open» .ensures)
+returns c = c .opening-flat .ensures ∙ ap flatOpening (c .before .«open» .ensures .is)
 
 pub jampreso-open-spec : {M : Type 1} → statement M
 jampreso-open-spec = tie.close (tie.spec (search needs) (search needs) returns)

@@ -14,7 +14,7 @@ returns c =
     walked 32 _ _ _
     (c .walked-flat .ensures
     ∙ ap flatWalked
-    (c .before .step .ensures ∙ ap (stepOf 32 (now (start .args .chain)) (now (start .args .list))) (c .before .before .walk-at .ensures)))
+    (c .before .step .ensures .is ∙ ap (stepOf 32 (now (start .args .chain)) (now (start .args .list))) (c .before .before .walk-at .ensures)))
 
 pub jampreso-step-spec : {M : Type 1} → statement M
 jampreso-step-spec = tie.close (tie.spec (search needs) (search needs) (search needs) returns)

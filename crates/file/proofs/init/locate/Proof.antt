@@ -9,11 +9,11 @@ unfolding indexOf
 returns c =
     let third = c .before .before in
     simp (
-      c .find5 .ensures,
-      c .before .find4 .ensures,
-      third .find3 .ensures,
-      third .before .find2 .ensures,
-      third .before .before .find .ensures,
+      c .find5 .ensures .is,
+      c .before .find4 .ensures .is,
+      third .find3 .ensures .is,
+      third .before .find2 .ensures .is,
+      third .before .before .find .ensures .is,
     )
 
 pub locate-spec : {M : Type 1} → statement M

@@ -24,7 +24,7 @@ file-k : (c : tie.After-open Inv-loop μ-loop) {v : Opening} → c .«open» .re
     → (let turn = c .before .before in
     let start = turn .before .before .before .before .before in
     openAt (start .args .z) (now (start .args .chain)) (now (start .args .list)) (turn .before .loop .k) ≡ v)
-file-k c e = open-is _ _ _ _ (c .before .file-at .ensures) (c .«open» .ensures) e
+file-k c e = open-is _ _ _ _ (c .before .file-at .ensures) (c .«open» .ensures .is) e
 
 loop-holds : tie.Need-loop-holds Inv-loop μ-loop
 loop-holds c = pass-begins _ _ _ (c .before .before .before .pre) _ _ (c .nowhere .ensures)

@@ -30,18 +30,18 @@ loop-again c =
     let stepped = c .before .before .before .before in (
       search needs,
       fill-next (stepped .before .before .loop .inv .1) _ _
-          (rest-parent _ _ _ _ _ (stepped .step-in .ensures) (c .before .before .met .given .1)) (search needs),
+          (rest-parent _ _ _ _ _ (stepped .step-in .ensures .is) (c .before .before .met .given .1)) (search needs),
     )
 
 returns : tie.Need-returns Inv-loop μ-loop
 returns c =
     let stepped = c .before .before in
-    fill-stops (stepped .before .before .loop .inv .1) _ (rest-stop _ _ _ _ _ (stepped .step-in .ensures) (c .enum-told .given .1))
+    fill-stops (stepped .before .before .loop .inv .1) _ (rest-stop _ _ _ _ _ (stepped .step-in .ensures .is) (c .enum-told .given .1))
 
 returns-2 : tie.Need-returns-2 Inv-loop μ-loop
 returns-2 c =
     let stepped = c .before .before in
-    fill-stops (stepped .before .before .loop .inv .1) _ (rest-end _ _ _ _ _ (stepped .step-in .ensures) (c .enum-told2 .given .1))
+    fill-stops (stepped .before .before .loop .inv .1) _ (rest-end _ _ _ _ _ (stepped .step-in .ensures .is) (c .enum-told2 .given .1))
 
 returns-3 : tie.Need-returns-3 Inv-loop μ-loop
 returns-3 c = fill-full (c .before .loop .inv .1) (search needs)

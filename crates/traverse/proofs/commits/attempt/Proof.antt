@@ -16,7 +16,7 @@ returns-2 c =
     let at-if1 = at-r .before .before .before in
     let start = at-if1 .before .before .before .before .before .before in
     let z : ⊥ = tried-none _ (start .pre .0) (start .pre .1) (at-if1 .before .entry-in .ensures) (at-if1 .if1 .left)
-    (at-r .before .before .commit-in .ensures) (at-r .r .given .1) in
+    (at-r .before .before .commit-in .ensures .is) (at-r .r .given .1) in
     absurd z
 
 returns-3 : tie.Need-returns-3
@@ -26,7 +26,7 @@ returns-3 c =
     let at-if1 = at-x .before .before .before in
     let start = at-if1 .before .before .before .before .before .before in
     tried-walk _ (start .pre .0) (start .pre .1) (at-if1 .before .entry-in .ensures) (at-if1 .if1 .left)
-    (at-x .before .before .commit-in .ensures) (at-x .x .given .1) (at-k .before .before .count-in .ensures) (at-k .k .given .1) _
+    (at-x .before .before .commit-in .ensures .is) (at-x .x .given .1) (at-k .before .before .count-in .ensures .is) (at-k .k .given .1) _
     (c .stopped3 .ensures)
 
 returns-4 : tie.Need-returns-4
@@ -35,7 +35,7 @@ returns-4 c =
     let at-if1 = at-x .before .before .before in
     let start = at-if1 .before .before .before .before .before .before in
     tried-fine _ (start .pre .0) (start .pre .1) (at-if1 .before .entry-in .ensures) (at-if1 .if1 .left)
-    (at-x .before .before .commit-in .ensures) (at-x .x .given .1) (c .before .before .before .count-in .ensures)
+    (at-x .before .before .commit-in .ensures .is) (at-x .x .given .1) (c .before .before .before .count-in .ensures .is)
     (c .before .k2 .given .1) _ refl refl refl
 
 pub attempt-spec : {M : Type 1} → statement M
