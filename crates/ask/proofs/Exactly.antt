@@ -29,8 +29,11 @@ use Rattle.ask.specs.declared.lookup.Found.the-variants.{Absent}
 use Rattle.graph.proofs.Passing.{file-opened, count-open}
 use Rattle.graph.proofs.Standing.{stands}
 
-place-same : (m i : ℕ) → place m ≡ place i → m ≡ i
-place-same m i e = let z : _≡_ {A = Position} (record { 0 = m }) (record { 0 = i }) = cc in ap (λ (p : Position). p .0) z
+place-same : {r : Found} (m i : ℕ) → r ≡ place m → r ≡ place i → m ≡ i
+place-same m i d e = let z : _≡_ {A = Position} (record { 0 = m }) (record { 0 = i }) = cc in ap (λ (p : Position). p .0) z
+
+place-some : {r : Found} (m : ℕ) → r ≡ place m → r ≡ Absent → ⊥
+place-some m d e = let z : _≡_ {A = ℕ} 0 1 = cc in omega arith
 
 -- r is the lowest position of x among those from `from` up to `to`
 data Lowest (id : ℕ → List ℕ) (x : List ℕ) (from to : ℕ) (r : Found) : Type 0 where
@@ -53,18 +56,18 @@ module _ (z : ℕ) (c l : List ℕ) where
   exact-of : {x : List ℕ} {r : Found} → Lowest (idOf z c l) x 0 (commitsIn z c l) r → Exact z c l x r
   exact-of (here h e a b d low) =
       record {
-        inside = λ m q. (let y : h ≡ m = place-same h m (sym e ∙ q) in omega arith);
-        sound = λ m q. (let y : h ≡ m = place-same h m (sym e ∙ q) in rw (← y) d);
-        lowest = λ m q g p. (let y : h ≡ m = place-same h m (sym e ∙ q) in low g (omega arith) (omega arith));
+        inside = λ m q. omega (arith, place-same h m e q);
+        sound = λ m q. rw (← place-same h m e q) d;
+        lowest = λ m q g p. low g (omega arith) (omega (arith, place-same h m e q));
         whole = λ g p v. (h, e, ⊎-elim (λ (y : h ≤ g). y) (λ (y : g < h). absurd (low g (omega arith) y v)) (le-or-lt h g));
-        absent = λ q g p v. (let y : _≡_ {A = ℕ} 0 1 = cc in omega arith);
+        absent = λ q g p v. place-some h e q;
         none = λ y. absurd (y h b d);
       }
   exact-of (nowhere e low) =
       record {
-        inside = λ m q. (let y : _≡_ {A = ℕ} 0 1 = cc in absurd (omega arith));
-        sound = λ m q. (let y : _≡_ {A = ℕ} 0 1 = cc in absurd (omega arith));
-        lowest = λ m q g p v. (let y : _≡_ {A = ℕ} 0 1 = cc in omega arith);
+        inside = λ m q. absurd (place-some m q e);
+        sound = λ m q. absurd (place-some m q e);
+        lowest = λ m q g p v. place-some m q e;
         whole = λ g p v. absurd (low g (omega arith) p v);
         absent = λ q g p v. low g (omega arith) p v;
         none = λ y. e;

@@ -1,4 +1,6 @@
--- A pass over a chain's files: where each lies, and how the pass goes on.
+-- A pass over a chain's files: where each lies, and how the pass goes on. What stands when it is at file k is `Along`: `at` is where the file starts,
+-- `sum` how many commits come before it, and the files from k on are refused as all are. A turn passes one file. That the commits are few is a law of
+-- sums, `few-commits`, which needs no pass.
 use Prim.Native.Nat.{ℕ, zero, suc, _+_, _-_, _*_, _≤_, _<_}
 use mathlib.Core.List.{List}
 use mathlib.Core.Bool.{Bool, true, false}

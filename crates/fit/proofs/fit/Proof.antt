@@ -21,21 +21,15 @@ next e h g = miss 40 _ _ _ (not-via _ _ false e h) g
 
 returns : tie.Need-returns
 unfolding fitRule
-returns c = here _ (c .before .known .ensures) (c .if1 .taken)
+returns c = search rows depth 30
 
 returns-2 : tie.Need-returns-2
 unfolding fitRule
-returns-2 c =
-    let one = c .before .before in
-    next (one .before .known .ensures) (one .if1 .left) (here _ (c .before .room .ensures) (c .if2 .taken))
+returns-2 c = search rows depth 30
 
 returns-3 : tie.Need-returns-3
 unfolding fitRule
-returns-3 c =
-    let two = c .before .before in
-    let one = two .before .before in
-    next (one .before .known .ensures) (one .if1 .left) (next (two .before .room .ensures) (two .if2 .left)
-    (here _ (c .before .room2 .ensures) (c .if3 .taken)))
+returns-3 c = search rows depth 30
 
 add-room : tie.Need-add-room
 add-room c =
