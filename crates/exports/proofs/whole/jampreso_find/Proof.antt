@@ -6,7 +6,7 @@ use Rattle.exports.proofs.whole.jampreso_find.Statement.{statement}
 use Rattle.exports.proofs.whole.jampreso_find.Tie as tie
 
 returns : tie.Need-returns
-returns c = c .found-flat .ensures ∙ ap flatFound (c .before .find .ensures .is .0)
+returns c = c .found-flat .ensures ∙ ap flatFound (c .before .find .ensures .0 .is)
 
 pub jampreso-find-spec : {M : Type 1} → statement M
 jampreso-find-spec = tie.close (tie.spec (search needs) (search needs) returns)
