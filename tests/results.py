@@ -13,7 +13,7 @@ EXCEPTIONS = Path("docs/EXCEPTIONS.md")
 HEAD = "-- Any two results that a public function's promise allows on the same arguments are equal. Made by tests/results.py.\n"
 RESERVED = {"open": "«open»"}
 # proved by a walk by hand, for which there is no `Reads`: the crate's own file of this name has the lemma
-BY_HAND = {("walk", "next_parent"): "Following"}
+BY_HAND = {("walk", "next_parent"): "Steps"}
 
 
 def sources(crate):
@@ -70,6 +70,8 @@ def lemmas(name, whole):
     part = result is not None and result.group(1).startswith("&")
     clauses = re.findall(r"ensures(?: \w+)? \{ λ (\w+)\. (?:do )?⌜ (.*?) ⌝ \}", whole, re.S)
     n = len(clauses)
+    if result is None and n == 0:
+        return [("determined", "Determined {}", "refl")]
     out = []
     for i, (r, claim) in enumerate(clauses):
         at = place(i, n)
@@ -105,7 +107,7 @@ def page(crate):
                 continue
             found = lemmas(name, whole)
             if "held" not in [x[0] for x in found] and "&mut" in whole.split("ensures")[0]:
-                found = []
+                found = []  # what it leaves in what it was lent has no equation
             if "determined" not in [x[0] for x in found] and ") ->" in whole or not found:
                 missing.append((path, name))
                 continue
@@ -123,7 +125,8 @@ def page(crate):
     words = "".join(body)
     names = [x for x in ("same", "same-part", "Determined", "DeterminedPart", "DeterminedHeld") if re.search(rf"(?<![\w-]){x}(?![\w-])", words)]
     own = "·proofs" if crate.name == "words" else ""
-    first = "use denote.Ref.{now}\n" if "now (" in words else ""
+    first = "use mathlib.Core.Path.{refl}\n" if " = refl\n" in words else ""
+    first += "use denote.Ref.{now}\n" if "now (" in words else ""
     return HEAD + first + f"use Rattle.words{own}.proofs.Determined.{{{', '.join(names)}}}\n" + "".join(uses) + words, missing
 
 

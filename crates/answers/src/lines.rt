@@ -1,13 +1,13 @@
 // A line for each commit of a file, and whether the counts of parents agree with the walks.
 use super::walk::walk;
-use cases::print::hex;
-use cases::print::number;
-use cases::print::print;
-use cases::print::refusal;
 use commit::Asked;
 use commit::commit_at;
 use commit::tree_at;
 use file::File;
+use lines::print::hex;
+use lines::print::number;
+use lines::print::print;
+use lines::print::refusal;
 use parents::Total;
 use parents::count_at;
 use types::file::Position;

@@ -1,10 +1,10 @@
 // The parents of a commit: the whole walk on one line, and a single step.
-use cases::print::number;
-use cases::print::print;
-use cases::print::refusal;
-use cases::step::answer;
-use cases::step::phase;
 use file::File;
+use lines::print::number;
+use lines::print::print;
+use lines::print::refusal;
+use lines::step::answer;
+use lines::step::phase;
 use parents::Answer;
 use parents::Total;
 use parents::step_at;

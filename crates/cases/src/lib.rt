@@ -1,4 +1,3 @@
-// What the programs over stored cases share: reading one record, and the words of a line.
-pub mod print;
+// What the programs over stored cases share of their input: one record, and the phase of a walk in it.
 pub mod record;
 pub mod step;

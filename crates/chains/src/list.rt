@@ -1,7 +1,7 @@
 // The parent list of a commit: what it answers, and what the lent list holds afterwards.
-use cases::print::number;
-use cases::print::print;
-use cases::print::refusal;
+use lines::print::number;
+use lines::print::print;
+use lines::print::refusal;
 use parents::Total;
 use types::graph::Position;
 use walk::listing::list_at;

@@ -1,10 +1,10 @@
 // The parents of a commit: the whole walk, and single steps.
-use cases::print::number;
-use cases::print::print;
-use cases::print::refusal;
-use cases::step::answer;
-use cases::step::phase;
 use cases::step::phase_of;
+use lines::print::number;
+use lines::print::print;
+use lines::print::refusal;
+use lines::step::answer;
+use lines::step::phase;
 use parents::Answer;
 use steps::Phase;
 use types::graph::Position;

@@ -4,11 +4,11 @@ use super::show::found;
 use super::show::position;
 use super::step::walk;
 use ask::positions::id_at;
-use cases::print::number;
-use cases::print::print;
-use cases::print::refusal;
 use graph::init::Opening;
 use graph::init::open;
+use lines::print::number;
+use lines::print::print;
+use lines::print::refusal;
 use types::graph::Position;
 
 // Prints the line of a position; a list of 4 entries is lent for its parents.

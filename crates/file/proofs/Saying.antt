@@ -28,7 +28,18 @@ record-from n vs =
     }
 
 pub record-again : (f : File) → record-from (f .commits) (recordSaid f) ≡ f
-record-again f = ap (λ (c : Chunk). record { commits = f .commits; bases = f .bases; width = f .width; oidf = f .oidf; oidl = f .oidl; cdat = f .cdat; base = f .base; edge = c }) (chunk-again (f .edge))
+record-again f =
+    ap (λ (c : Chunk).
+    record {
+      commits = f .commits;
+      bases = f .bases;
+      width = f .width;
+      oidf = f .oidf;
+      oidl = f .oidl;
+      cdat = f .cdat;
+      base = f .base;
+      edge = c;
+    }) (chunk-again (f .edge))
 
 abbrev opening-from : Refusal → List ℕ → Opening
 opening-from r [] = Refused r

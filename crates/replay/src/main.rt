@@ -4,9 +4,9 @@
 // What it reads and what it must print is made by `python3 tests/replay.py crates/replay`.
 mod single;
 
-use cases::print::print;
 use cases::record::read;
 use cases::record::room;
+use lines::print::print;
 use report::report;
 use single::single;
 

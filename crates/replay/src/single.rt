@@ -1,12 +1,12 @@
 // The chain of an input as one file: its traversal, its trailer, and whether that is the digest.
 use access::Asking;
-use cases::print::hex;
-use cases::print::number;
-use cases::print::print;
-use cases::print::refusal;
 use file::File;
 use file::Opening;
 use file::init::open;
+use lines::print::hex;
+use lines::print::number;
+use lines::print::print;
+use lines::print::refusal;
 use sums::checksum;
 use sums::verify_checksum;
 use traverse::Summary;

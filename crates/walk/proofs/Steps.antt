@@ -5,6 +5,7 @@ use mathlib.Core.Path.{_≡_, ap}
 use native.Mathlib.Omega.{arith}
 use denote.Ref.{RefT}
 use borrow.Author.Tests.{lt-ltb, le-ltb}
+use Rattle.words.proofs.Determined.{same}
 use Rattle.words.specs.First.{_if_else_}
 use Rattle.types.specs.declared.refusal.Refusal.{Refusal}
 use Rattle.words.specs.Part.{RecordsOf}
@@ -17,7 +18,7 @@ use Rattle.graph.specs.declared.locate.Located.the-variants.{At, Refused as Now
 use Rattle.graph.specs.declared.locate.Spot.{Spot}
 use Rattle.graph.proofs.Spots.{spotted, unspotted, file-cut}
 use Rattle.graph.proofs.Views.{numbers}
-use Rattle.walk.specs.Walks.{answerIn, refused, stepBy, stepOf}
+use Rattle.walk.specs.Walks.{answerIn, refused, stepBy, stepOf, ByDoor}
 use Rattle.walk.specs.declared.Walk.{Walk}
 use Rattle.walk.specs.declared.Step.{Step}
 
@@ -40,3 +41,7 @@ module _ (z : ℕ) (c : RefT (List ℕ)) (l : List ℕ) (w : Walk) where
       let h = spotted z (c .now) l (w .commit .0) e in
       let f = file-cut c h k in
       rw (le-ltb 0 (asked z (c .now) l (w .commit .0) .number) (omega (arith, h .fine)), h .file, h .pos, h .opens, ← f .bytes, ← q, d)
+
+-- any two answers of the second door, and any two walks that it leaves, are equal
+pub next-parent-determined : (c l : List ℕ) (w : Walk) {r s : Answer} {x y : Walk} → ByDoor c l w r x → ByDoor c l w s y → (r ≡ s) × (x ≡ y)
+next-parent-determined c l w p q = (same (p .0 .is) (q .0 .is), same (p .1) (q .1))

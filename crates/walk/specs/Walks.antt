@@ -1,11 +1,14 @@
 -- The parent step on a chain: the opening, then 40, then the state; 50 to 54 carry the commit's file and its position there.
 use Prim.Native.Nat.{ℕ}
 use mathlib.Core.List.{List}
+use mathlib.Core.Path.{_≡_}
 use lib.Dec.{ltb}
 use Rattle.words.specs.First.{_if_else_}
+use Rattle.types.specs.Said.{Answers}
 use Rattle.types.specs.declared.refusal.Refusal.{Refusal}
 use Rattle.file.specs.declared.Opening.{Opening}
 use Rattle.file.specs.declared.Opening.the-variants.{Open, Refused}
+use Rattle.parents.specs.Said.{answerSaid}
 use Rattle.parents.specs.Walks.{stepOf as fileStep}
 use Rattle.parents.specs.declared.Step.{Step as FileStep}
 use Rattle.parents.specs.declared.Answer.{Answer}
@@ -36,3 +39,7 @@ stepOf z c l w =
     refused w (asked z c l (w .commit .0)) if ltb 0 (asked z c l (w .commit .0) .number) else
     stepBy (fileOf z c l (w .commit .0)) (partAt z c l (fileOf z c l (w .commit .0))) (openAt z c l (fileOf z c l (w .commit .0)))
     (posOf z c l (w .commit .0)) w
+
+-- the second door: what it answers for a walk, and the walk that it leaves
+abbrev pub ByDoor : List ℕ → List ℕ → Walk → Answer → Walk → Type 0
+ByDoor c l w r x = Answers answerSaid r (stepOf 32 c l w .answer) × (x ≡ stepOf 32 c l w .next)

@@ -10,10 +10,9 @@ use steps::Phase;
 use types::graph::Position;
 use words::part::part;
 ghost use mathlib.Core.Path.{_≡_};
-ghost use Rattle.parents.specs.Said.{answerSaid};
 ghost use Rattle.walk.specs.Said.{stepSaid};
 ghost use Rattle.types.specs.Said.{Answers};
-ghost use Rattle.walk.specs.Walks.{answerIn, stepOf};
+ghost use Rattle.walk.specs.Walks.{answerIn, stepOf, ByDoor};
 
 pub struct Walk {
     pub commit: Position,
@@ -73,8 +72,7 @@ impl Walk {
 
 // The second door: the caller's walk is changed in place.
 pub fn next_parent(walk: &mut Walk, chain: &[u8], list: &[u8]) -> Answer
-    ensures { λ r. ⌜ (Answers answerSaid r (stepOf 32 (now (chain .entry)) (now (list .entry)) (now (walk .entry)) .answer))
-        × (now (walk .exit) ≡ stepOf 32 (now (chain .entry)) (now (list .entry)) (now (walk .entry)) .next) ⌝ }
+    ensures { λ r. ⌜ ByDoor (now (chain .entry)) (now (list .entry)) (now (walk .entry)) r (now (walk .exit)) ⌝ }
 {
     let w = *walk;
     let s = w.step(chain, list);
