@@ -70,10 +70,10 @@ loop-again c =
     let start = at-loop .before .before .before .before .before in
     let o = at-loop .loop in
     let x = at-met .before .before .step-in in (
-      met-in _ _ _ _ _ _ _ (rest-parent _ _ _ _ _ (x .ensures) (at-met .met .given .1))
+      met-in _ _ _ _ _ _ _ (rest-parent _ _ _ _ _ (x .ensures .is) (at-met .met .given .1))
           (omega (arith, c .before .before .if1 .left, start .pre .0 .first (start .args .home + 1) (omega (arith, start .pre .1 .1))))
           (⊎-elim (λ w. omega arith) (λ w. omega arith) (c .if2 .came)) ∙ o .inv .0,
-      omega (arith, next-less _ _ _ _ _ (x .ensures) (at-met .met .given .1), o .inv .1),
+      omega (arith, next-less _ _ _ _ _ (x .ensures .is) (at-met .met .given .1), o .inv .1),
     )
 
 returns-2 : tie.Need-returns-2 Inv-loop μ-loop
