@@ -1,4 +1,4 @@
--- `commit::cdat` meets its contract.
+-- `commit::cdat` meets its contract: the records of a file that fits lie in its bytes.
 use Rattle.words.proofs.Parts.{records-in}
 use borrow.Author.Needs.{needs}
 use Rattle.commit.proofs.cdat.Statement.{statement}

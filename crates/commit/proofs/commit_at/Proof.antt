@@ -1,4 +1,4 @@
--- `commit::commit_at` meets its contract.
+-- `commit::commit_at` meets its contract: the question's refusal is the definition's; else the row is that of a record that fits (`commit-plain`).
 use mathlib.Core.Path.{ap, _∙_}
 use Rattle.types.proofs.Saying.{answers}
 use Rattle.commit.specs.declared.Asked.the-variants.{Commit as Is, Refused}

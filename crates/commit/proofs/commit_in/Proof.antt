@@ -1,4 +1,4 @@
--- `commit::commit_in` meets its contract.
+-- `commit::commit_in` meets its contract: where the row's rule refuses nothing the row is there (`there`), and its fields are read.
 use Prim.Native.Nat.{_+_, _*_, _≤_}
 use mathlib.Core.Path.{ap, _∙_}
 use native.Mathlib.Omega.{arith}

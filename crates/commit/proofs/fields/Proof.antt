@@ -1,4 +1,4 @@
--- `commit::fields` meets its contract.
+-- `commit::fields` meets its contract: each of the four words that are read is the definition's.
 use Rattle.commit.specs.Commits.{commitOf}
 use borrow.Author.Needs.{needs}
 use Rattle.commit.proofs.fields.Statement.{statement}

@@ -1,4 +1,4 @@
--- `commit::parent_edge` meets its contract.
+-- `commit::parent_edge` meets its contract: each return is the row of the parent word that its tests name.
 use Rattle.commit.proofs.Words.{edge-none, edge-index, edge-position}
 use Rattle.commit.proofs.parent_edge.Statement.{statement}
 use Rattle.commit.proofs.parent_edge.Tie as tie

@@ -1,4 +1,4 @@
--- `commit::row_at` meets its contract.
+-- `commit::row_at` meets its contract: the row's fields lie in the CDAT part (`room`), and the part is the definition's.
 use Prim.Native.Nat.{ℕ, _+_, _*_, _≤_}
 use mathlib.Core.List.{List}
 use mathlib.Core.Path.{ap, _∙_}

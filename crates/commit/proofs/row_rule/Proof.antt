@@ -1,4 +1,4 @@
--- `commit::row_rule` meets its contract.
+-- `commit::row_rule` meets its contract: each return is a row of the table; a known width keeps the row's place small (`small`).
 use Prim.Native.Nat.{_+_, _*_, _^_, _<_, _≤_}
 use mathlib.Core.Path.{sym, _∙_}
 use native.Mathlib.Omega.{arith}

@@ -1,4 +1,4 @@
--- `commit::tree_at` meets its contract.
+-- `commit::tree_at` meets its contract: a refused question has the empty part at the start; else row `pos` lies in the CDAT part (`row-part`).
 use Prim.Native.Nat.{_+_}
 use mathlib.Core.Path.{refl}
 use native.Mathlib.Omega.{arith}

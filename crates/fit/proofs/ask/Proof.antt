@@ -1,4 +1,4 @@
--- `fit::ask` meets its contract.
+-- `fit::ask` meets its contract: the fit's refusal comes first, then 40 where `i` is not below `n`.
 use Rattle.fit.proofs.Fitting.{ask-misfit, ask-out, ask-fine}
 use borrow.Author.Needs.{needs}
 use Rattle.fit.proofs.ask.Statement.{statement}

@@ -1,4 +1,4 @@
--- `fit::within` meets its contract.
+-- `fit::within` meets its contract: the room is that of the chunk's own start and size.
 use mathlib.Core.Path.{_∙_}
 use borrow.Author.Needs.{needs}
 use Rattle.fit.proofs.within.Statement.{statement}

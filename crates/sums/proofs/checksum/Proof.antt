@@ -1,4 +1,4 @@
--- `sums::checksum` meets its contract.
+-- `sums::checksum` meets its contract: a record that does not fit has the empty part; else the trailer lies in the bytes (`trailer-room`).
 use mathlib.Core.Path.{refl}
 use native.Mathlib.Omega.{arith}
 use Rattle.words.proofs.Parts.{run-in}
@@ -18,9 +18,9 @@ sub-part c = omega (arith, trailer-room _ _ (c .before .before .fit .ensures) (c
 
 returns-2 : tie.Need-returns-2
 returns-2 c =
-    let at-if1 = c .before .before in
-    let h = trailer-room _ _ (at-if1 .before .fit .ensures) (at-if1 .if1 .left) in
-    part-fine _ _ _ _ _ (zero-of (at-if1 .before .fit .ensures) (at-if1 .if1 .left)) (run-in _ _ _ _ (omega arith) (c .part .ensures))
+    let fine = c .before .before in
+    let h = trailer-room _ _ (fine .before .fit .ensures) (fine .if1 .left) in
+    part-fine _ _ _ _ _ (zero-of (fine .before .fit .ensures) (fine .if1 .left)) (run-in _ _ _ _ (omega arith) (c .part .ensures))
 
 pub checksum-spec : {M : Type 1} → statement M
 checksum-spec =

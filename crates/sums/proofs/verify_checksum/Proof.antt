@@ -1,4 +1,4 @@
--- `sums::verify_checksum` meets its contract.
+-- `sums::verify_checksum` meets its contract: a record that does not fit is refused, then a trailer that is wrong.
 use mathlib.Core.Path.{ap, _∙_}
 use Rattle.types.proofs.Saying.{answers}
 use Rattle.access.specs.Lookup.{asking}
@@ -16,15 +16,15 @@ returns c =
 
 returns-2 : tie.Need-returns-2
 returns-2 c =
-    let at-if1 = c .before .before .before in
+    let fine = c .before .before .before in
     answers (ap Refused (c .at2 .ensures) ∙ asking-some _ (c .before .if2 .taken)
-    ∙ ap asking (checksum-sum _ _ (at-if1 .before .fit .ensures) (at-if1 .if1 .left) (c .before .before .sum-in .ensures)))
+    ∙ ap asking (checksum-sum _ _ (fine .before .fit .ensures) (fine .if1 .left) (c .before .before .sum-in .ensures)))
 
 returns-3 : tie.Need-returns-3
 returns-3 c =
-    let at-if1 = c .before .before in
+    let fine = c .before .before in
     answers (asking-none _ (c .if2 .left)
-    ∙ ap asking (checksum-sum _ _ (at-if1 .before .fit .ensures) (at-if1 .if1 .left) (c .before .sum-in .ensures)))
+    ∙ ap asking (checksum-sum _ _ (fine .before .fit .ensures) (fine .if1 .left) (c .before .sum-in .ensures)))
 
 pub verify-checksum-spec : {M : Type 1} → statement M
 verify-checksum-spec =

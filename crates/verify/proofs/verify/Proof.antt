@@ -1,4 +1,4 @@
--- `verify::verify` meets its contract.
+-- `verify::verify` meets its contract: the answer is that of `audit`, and what it comes to is claimed of the definition (`both`).
 use borrow.Author.Needs.{needs}
 use Rattle.types.proofs.Saying.{also}
 use Rattle.verify.proofs.Demands.{both}

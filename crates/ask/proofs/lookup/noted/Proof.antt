@@ -1,4 +1,4 @@
--- `ask::lookup::noted` meets its contract.
+-- `ask::lookup::noted` meets its contract: an id that was seen stays; else what the file's lookup answers is noted, and its position fits (`add-pos`).
 use mathlib.Core.Path.{sym, _∙_}
 use native.Mathlib.Omega.{arith}
 use Rattle.ask.specs.Lookups.{noteFile}

@@ -1,4 +1,4 @@
--- `ask::positions::commit_at` meets its contract.
+-- `ask::positions::commit_at` meets its contract: a position that is not located is refused; else the commit of its file (`commit-part`).
 use mathlib.Core.Path.{sym, _∙_}
 use Rattle.types.proofs.Saying.{answers}
 use Rattle.ask.proofs.Reading.{commit-none, commit-part}

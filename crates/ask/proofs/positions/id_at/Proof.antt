@@ -1,4 +1,4 @@
--- `ask::positions::id_at` meets its contract.
+-- `ask::positions::id_at` meets its contract: a position that is not located has the empty part; else the id of its file, in the chain (`id-part`).
 use mathlib.Core.Path.{refl, sym, _∙_}
 use native.Mathlib.Omega.{arith}
 use Rattle.ask.proofs.Reading.{id-none, id-part}

@@ -1,4 +1,4 @@
--- `ask::positions::tree_at` meets its contract.
+-- `ask::positions::tree_at` meets its contract: a position that is not located has the empty part; else the tree of its file, in the chain (`tree-part`).
 use mathlib.Core.Path.{refl, sym, _∙_}
 use native.Mathlib.Omega.{arith}
 use Rattle.ask.proofs.Reading.{tree-none, tree-part}

@@ -1,4 +1,4 @@
--- `ask::positions::which` meets its contract.
+-- `ask::positions::which` meets its contract: what `locate` refuses by, or nothing.
 use mathlib.Core.Path.{sym, _∙_}
 use Rattle.types.proofs.Saying.{answers}
 use Rattle.ask.proofs.Reading.{which-none, which-fine}

@@ -1,4 +1,4 @@
--- `graph::init::open` meets its contract.
+-- `graph::init::open` meets its contract: what was viewed is refused, or the whole chain's commits.
 use Rattle.types.proofs.Saying.{answers}
 use Rattle.graph.proofs.Views.{opening-refused, opening-whole}
 use borrow.Author.Needs.{needs}

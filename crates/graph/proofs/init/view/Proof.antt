@@ -1,4 +1,4 @@
--- `graph::init::view` meets its contract.
+-- `graph::init::view` meets its contract: a refused list is handed back; a listed chain is what the pass over its files says.
 use mathlib.Core.Path.{refl}
 use native.Mathlib.Omega.{arith}
 use denote.Ref.{now}

@@ -1,4 +1,4 @@
--- `graph::locate::locate` meets its contract.
+-- `graph::locate::locate` meets its contract: a refused chain, a file that was kept, or no file at all: each a way through `located`.
 use Rattle.types.proofs.Saying.{answers}
 use Rattle.graph.proofs.Spots.{locate-refused, locate-found, locate-out}
 use borrow.Author.Needs.{needs}

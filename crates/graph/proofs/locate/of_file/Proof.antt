@@ -1,4 +1,4 @@
--- `graph::locate::of_file` meets its contract.
+-- `graph::locate::of_file` meets its contract: number and place are kept, and the file is k.
 use mathlib.Core.Path.{refl}
 use Rattle.graph.proofs.locate.of_file.Statement.{statement}
 use Rattle.graph.proofs.locate.of_file.Tie as tie

@@ -1,4 +1,4 @@
--- `graph::survey::file_at` meets its contract.
+-- `graph::survey::file_at` meets its contract: the bytes that a record of the list names are part k of the chain (`part-is`).
 use Rattle.graph.proofs.Passing.{part-is}
 use borrow.Author.Needs.{needs}
 use Rattle.graph.proofs.survey.file_at.Statement.{statement}

@@ -1,4 +1,4 @@
--- `graph::survey::kept` meets its contract.
+-- `graph::survey::kept` meets its contract: position `g` stands before file k, behind it, or in it.
 use Rattle.graph.proofs.Passing.{kept-before, kept-after, kept-here}
 use Rattle.graph.proofs.survey.kept.Statement.{statement}
 use Rattle.graph.proofs.survey.kept.Tie as tie
