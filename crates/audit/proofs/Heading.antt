@@ -96,7 +96,7 @@ unfolding nameRule
 name-not w z l i p e = not-61 63 _ _ (λ k. omega arith) (λ k. not-61 63 _ 0 (λ m. omega arith) (λ m. omega arith) k) e
 
 -- what 60 to 63 said: the bases, the first bad one, the sum, the name
-module _ (z : ℕ) (c l : List ℕ) (i : ℕ) {f : File} (o : openAt z c l i ≡ Open f) where
+module _ (z : ℕ) (c l : List ℕ) (i : ℕ) (there : i < recordsOf z l) {f : File} (o : openAt z c l i ≡ Open f) where
   pub head-bases : (f .bases ≡ i → ⊥) → JudgedAs z c l i (record { number = 60; place = 0 })
   unfolding headRule headPlace baseRule basesIn _if_else_ _or_
   head-bases h = let y = ne-not (f .bases) i h in record { number = rw (o, y); place = rw (o, y) }
@@ -135,5 +135,5 @@ module _ (z : ℕ) (c l : List ℕ) (i : ℕ) {f : File} (o : openAt z c l i ≡
         pub head-name : a ≤ 0 → {b : ℕ} → b ≡ nameIn (f .width) z l i s → JudgedAs z c l i (record { number = b; place = 0 })
         head-name g {b} x =
             let v : b ≡ nameRule (f .width) z l i (partAt z c l i) = x ∙ ap (nameIn (f .width) z l i) p
-            ∙ name-plain (f .width) z l i (partAt z c l i) (is-open z c l i o .known) (long z c l i o) in
+            ∙ name-plain (f .width) z l i (partAt z c l i) there (is-open z c l i o .known) (long z c l i o) in
             plain (v ∙ sym (rest ∙ or-miss _ (sym summed ∙ omega arith))) (λ k. name-not (f .width) z l i (partAt z c l i) (sym v ∙ k))

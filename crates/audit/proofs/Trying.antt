@@ -54,6 +54,7 @@ module _ (z : ℕ) (c l : List ℕ) (i w n : ℕ) (x y v e : List ℕ) (t : Bool
   holds : Holds (partsOf (partAt z c l i) (q .inner)) (q .inner .commits)
   holds = record {
     known = cut-wide .known;
+    fan = omega (arith, length-part (q .inner .oidf) 1024 (partAt z c l i) (cut-wide .fitted .fan));
     ids = length-part (q .inner .oidl) _ (partAt z c l i) (cut-wide .fitted .ids);
     rows = length-part (q .inner .cdat) _ (partAt z c l i) (cut-wide .fitted .rows);
   }

@@ -1,5 +1,6 @@
 // Refusals 62 to 67: the trailer, the name, and a commit's entry. Each is a number, or 0 for none.
 use list::claims;
+use list::count;
 use list::kind_at;
 use order::Order;
 use order::compare;
@@ -73,6 +74,9 @@ fn other(list: &[u8], z: u32, k: u32, s: &[u8], w: usize) -> bool
 pub fn name_in(list: &[u8], z: u32, k: u32, s: &[u8], w: usize) -> u32
     ensures { λ r. ⌜ r ≡ nameIn w z (now (list .entry)) k (now (s .entry)) ⌝ }
 {
+    if count(list, z) <= k as usize {
+        return POSITION;
+    }
     if w != 20 {
         return POSITION;
     }
@@ -159,6 +163,9 @@ pub fn entry_in(fan: &[u8], ids: &[u8], rows: &[u8], w: usize, c: u32) -> u32
     ensures { λ r. ⌜ r ≡ entryIn w (now (fan .entry)) (now (ids .entry)) (now (rows .entry)) c ⌝ }
 {
     if w != 20 {
+        return POSITION;
+    }
+    if fan.len() < 1024 {
         return POSITION;
     }
     let i = c as usize;

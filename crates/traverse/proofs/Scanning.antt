@@ -46,7 +46,7 @@ module _ {q : Parts} {n : ℕ} (i : ℕ) (o : Holds q n) (l : i < n) where
   pub entry-is : entryIn (q .width) (q .fan) (q .ids) (q .rows) i ≡ entryRule (q .width) (q .fan) (q .ids) (q .rows) i
   entry-is =
       let z = run-within i n (q .width) l in
-      entry-plain (q .width) (q .fan) (q .ids) (q .rows) i (o .known) (omega (arith, o .ids)) rows-room
+      entry-plain (q .width) (q .fan) (q .ids) (q .rows) i (o .known) (o .fan) (omega (arith, o .ids)) rows-room
 
   -- the commit is there
   pub row-is : commitIn (q .width) (q .rows) i ≡ Is (commitOf (q .rows) (i * (q .width + 16) + q .width))
@@ -215,6 +215,7 @@ module _ (s : RefT (List ℕ)) {f : File} (o : Opened (s .now) f) where
   pub file-holds : Holds (partsOf (s .now) f) (f .commits)
   file-holds = record {
     known = o .known;
+    fan = omega (arith, length-part (f .oidf) 1024 (s .now) (o .fitted .fan));
     ids = length-part (f .oidl) (f .commits * f .width) (s .now) (o .fitted .ids);
     rows = length-part (f .cdat) _ (s .now) (o .fitted .rows);
   }

@@ -1,5 +1,5 @@
 -- What the private functions of a traversal hand each other. No rule of the paper is here.
-use Prim.Native.Nat.{ℕ, zero, suc, _+_, _*_, min}
+use Prim.Native.Nat.{ℕ, zero, suc, _+_, _*_, _≤_, min}
 use mathlib.Core.Path.{_≡_}
 use mathlib.Core.Bool.{true}
 use lib.ListN.{length}
@@ -13,6 +13,7 @@ use Rattle.traverse.specs.declared.commits.Scanned.{Scanned}
 -- the parts hold n commits
 pub record Holds (q : Parts) (n : ℕ) : Type 0 where
   pub known : known (q .width) ≡ true
+  pub fan : 1024 ≤ length (q .fan)
   pub ids : length (q .ids) ≡ n * q .width
   pub rows : length (q .rows) ≡ n * (q .width + 16)
 

@@ -1,6 +1,7 @@
 -- `traverse::traverse` meets its contract.
 use mathlib.Core.Path.{sym, _∙_}
-use Rattle.traverse.proofs.Traversing.{traversal-list, traversal-shut, traversal-open}
+use denote.Ref.{now}
+use Rattle.traverse.proofs.Traversing.{one-record, traversal-list, traversal-shut, traversal-open}
 use borrow.Author.Needs.{needs}
 use Rattle.traverse.proofs.traverse.Statement.{statement}
 use Rattle.traverse.proofs.traverse.Tie as tie
@@ -9,7 +10,11 @@ returns : tie.Need-returns
 returns c = c .refused .ensures ∙ traversal-list 32 _ _ (c .before .before .before .one .ensures) (c .before .if1 .taken)
 
 opened-requires : tie.Need-opened-requires
-opened-requires c κs = sym (c .before .before .before .«open» .ensures) ∙ c .before .f .given .1
+opened-requires c κs =
+    let opened = c .before .before .before in
+    let list = opened .before in
+    let start = list .before .before .before .before .before in
+    (sym (opened .«open» .ensures) ∙ c .before .f .given .1, one-record 32 (now (start .args .chain)) (now (start .args .list)) (list .before .before .one .ensures) (list .if1 .left))
 
 returns-2 : tie.Need-returns-2
 returns-2 c =

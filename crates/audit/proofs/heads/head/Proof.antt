@@ -9,7 +9,7 @@ use Rattle.audit.proofs.heads.head.Tie as tie
 returns : tie.Need-returns
 returns c =
     let start = c .before .before .before .before .before in
-    head-bases _ _ _ _ (start .pre .1 .1) (c .if1 .taken)
+    head-bases _ _ _ _ (start .pre .1 .0) (start .pre .1 .1) (c .if1 .taken)
 
 bad-base-requires : tie.Need-bad-base-requires
 bad-base-requires c κs =
@@ -23,14 +23,14 @@ returns-2 : tie.Need-returns-2
 returns-2 c =
     let at-if1 = c .before .before .before .before in
     let start = at-if1 .before .before .before .before .before in
-    head-base _ _ _ _ (start .pre .1 .1) (at-if1 .if1 .left) (c .before .bad-base .ensures) (c .if2 .taken)
+    head-base _ _ _ _ (start .pre .1 .0) (start .pre .1 .1) (at-if1 .if1 .left) (c .before .bad-base .ensures) (c .if2 .taken)
 
 returns-3 : tie.Need-returns-3
 returns-3 c =
     let at-if2 = c .before .before in
     let at-if1 = at-if2 .before .before .before .before in
     let start = at-if1 .before .before .before .before .before in
-    head-sum _ _ _ _ (start .pre .1 .1) (at-if1 .if1 .left) (at-if2 .before .bad-base .ensures) (at-if2 .if2 .left) (start .pre .1 .2)
+    head-sum _ _ _ _ (start .pre .1 .0) (start .pre .1 .1) (at-if1 .if1 .left) (at-if2 .before .bad-base .ensures) (at-if2 .if2 .left) (start .pre .1 .2)
     (c .before .sum-in .ensures) (c .if3 .taken)
 
 returns-4 : tie.Need-returns-4
@@ -38,7 +38,7 @@ returns-4 c =
     let at-if2 = c .before .before .before in
     let at-if1 = at-if2 .before .before .before .before in
     let start = at-if1 .before .before .before .before .before in
-    head-name _ _ _ _ (start .pre .1 .1) (at-if1 .if1 .left) (at-if2 .before .bad-base .ensures) (at-if2 .if2 .left)
+    head-name _ _ _ _ (start .pre .1 .0) (start .pre .1 .1) (at-if1 .if1 .left) (at-if2 .before .bad-base .ensures) (at-if2 .if2 .left)
     (start .pre .1 .2) (c .before .before .sum-in .ensures) (c .before .if3 .left) (c .name-in .ensures)
 
 pub head-spec : {M : Type 1} → statement M
