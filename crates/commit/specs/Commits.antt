@@ -7,7 +7,8 @@ use lib.Dec.{ltb, leb, eqb}
 use Rattle.types.specs.Refusals.{refusal}
 use Rattle.words.specs.Big.{be}
 use Rattle.words.specs.First.{_if_else_, refuse}
-use Rattle.fit.specs.Fits.{known, askRule, rowsPart}
+use Rattle.types.specs.Width.{known}
+use Rattle.fit.specs.Fits.{askRule, rowsPart}
 use Rattle.file.specs.declared.File.{File}
 use Rattle.commit.specs.declared.Commit.{Commit}
 use Rattle.commit.specs.declared.Asked.{Asked}

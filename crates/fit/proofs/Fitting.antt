@@ -14,7 +14,8 @@ use Rattle.words.specs.Part.{fits, PartOf, RecordsOf}
 use Rattle.words.proofs.Parts.{part-part, part-length, records-in}
 use Rattle.words.proofs.Rows.{hit, miss, pass}
 use Rattle.chunk.specs.Index.{startOf, sizeOf}
-use Rattle.fit.specs.Fits.{known, fitRule, askRule, AskedPart, Fitted}
+use Rattle.types.specs.Width.{known}
+use Rattle.fit.specs.Fits.{fitRule, askRule, AskedPart, Fitted}
 use Rattle.fit.specs.Facts.{Opened}
 use Rattle.file.specs.declared.File.{File}
 
@@ -122,7 +123,3 @@ module _ {s p : RefT (List ℕ)} {at : ℕ} (n r i w : ℕ) (q : PartOf s at (n 
 -- a number that is not above 0
 pub zero-of : {m n : ℕ} → m ≡ n → m ≤ 0 → n ≡ 0
 zero-of e h = omega arith
-
--- m records of w bytes, of which there are few
-pub small-product : (m w : ℕ) → m < 2 ^ 32 → w < 1000 → m * w < 2 ^ 63
-small-product m w h g = let z : m * w ≤ 2 ^ 32 * 1000 = mul-le-mul (le-of-lt h) (le-of-lt g) in omega arith

@@ -20,7 +20,7 @@ use Rattle.chunk.specs.declared.Chunk.the-variants.{At, Absent}
 use Rattle.chunk.proofs.Sound.{indexed, lies}
 use Rattle.file.specs.Table.{bases, width, header, indexOf, partOf, baseRules, chunkRules, countRules, falls, peak, peakBy, last, fileOf, notOpen, fanned, chunked, openingBy, opening}
 use Rattle.fit.specs.Facts.{Opened, Rises}
-use Rattle.fit.specs.Fits.{known}
+use Rattle.types.specs.Width.{known}
 use Rattle.file.specs.declared.File.{File}
 use Rattle.file.specs.declared.rules.Index.{Index}
 use Rattle.file.specs.declared.Opening.{Opening}

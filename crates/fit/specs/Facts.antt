@@ -5,7 +5,8 @@ use mathlib.Core.Bool.{true}
 use mathlib.Core.Path.{_≡_}
 use lib.ListN.{length, getD}
 use Rattle.words.specs.Big.{be}
-use Rattle.fit.specs.Fits.{known, fanPart, Fitted}
+use Rattle.types.specs.Width.{known}
+use Rattle.fit.specs.Fits.{fanPart, Fitted}
 use Rattle.file.specs.declared.File.{File}
 
 -- it holds with 20 tried or not

@@ -1,18 +1,15 @@
 -- Whether a file's record fits the bytes it is used with. A position outside, or a record that does not fit, is refusal 40.
 use Prim.Native.Nat.{ℕ, _+_, _*_, _≤_, _<_}
 use mathlib.Core.List.{List}
-use mathlib.Core.Bool.{Bool, not}
+use mathlib.Core.Bool.{not}
 use lib.ListN.{length, take, drop}
 use lib.Dec.{ltb, leb, eqb}
 use denote.Ref.{RefT}
 use Rattle.words.specs.First.{_if_else_}
 use Rattle.words.specs.Part.{fits, PartOf}
+use Rattle.types.specs.Width.{known}
 use Rattle.chunk.specs.Index.{startOf, sizeOf}
 use Rattle.file.specs.declared.File.{File}
-
--- the widths that an id can have
-abbrev pub known : ℕ → Bool
-known w = eqb w 20
 
 unfoldable pub fitRule : List ℕ → File → ℕ
 fitRule l f =

@@ -18,7 +18,7 @@ use Rattle.words.specs.Part.{PartOf, RecordsOf}
 use Rattle.order.proofs.Ordered.{Says, told}
 use Rattle.words.proofs.Parts.{run-in, part-length, part-number}
 use Rattle.words.proofs.Rows.{hit, miss, pass, eq-not, ne-not, and-first, and-both, and-second}
-use Rattle.fit.specs.Fits.{known}
+use Rattle.types.specs.Width.{known}
 use Rattle.access.specs.Lookup.{keyOf, lower, upper}
 use Rattle.rules.specs.Rules.{_or_, idRule, bucketRule, treeRule, entryRule, entryIn}
 use Rattle.rules.specs.Facts.{Entry}

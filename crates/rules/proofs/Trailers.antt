@@ -13,7 +13,7 @@ use Rattle.words.specs.Part.{PartOf}
 use Rattle.words.proofs.Parts.{part-length, part-number}
 use Rattle.words.proofs.Rows.{hit, miss, pass, eq-not, ne-not}
 use Rattle.sha1.specs.Fips.{sha1Of}
-use Rattle.fit.specs.Fits.{known}
+use Rattle.types.specs.Width.{known}
 use Rattle.list.specs.List.{recordsOf, kindAt, claimAt}
 use Rattle.rules.specs.Rules.{trailerOf, sumRule, nameRule, trailing, sumIn, nameIn}
 use Rattle.rules.specs.Facts.{Summed, Named}

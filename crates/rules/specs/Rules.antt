@@ -7,7 +7,7 @@ use lib.Dec.{ltb, leb, eqb}
 use Rattle.words.specs.Big.{be, number}
 use Rattle.words.specs.First.{_if_else_}
 use Rattle.sha1.specs.Fips.{sha1Of}
-use Rattle.fit.specs.Fits.{known}
+use Rattle.types.specs.Width.{known}
 use Rattle.list.specs.List.{recordsOf, kindAt, claimAt}
 use Rattle.access.specs.Lookup.{keyOf, lower, upper}
 

@@ -8,7 +8,8 @@ use lib.Dec.{lit<}
 use lib.ListN.{length}
 use borrow.Author.Tests.{not-false}
 use Rattle.words.proofs.Rows.{pass}
-use Rattle.fit.specs.Fits.{known, fitRule, Fitted}
+use Rattle.types.specs.Width.{known}
+use Rattle.fit.specs.Fits.{fitRule, Fitted}
 use Rattle.file.specs.declared.File.{File}
 use Rattle.fit.proofs.Fitting.{fitted}
 use Rattle.rules.specs.Rules.{sumRule, sumIn}

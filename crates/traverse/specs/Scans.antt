@@ -3,7 +3,7 @@ use Prim.Native.Nat.{ℕ, zero, suc, _+_, _*_, _≤_, min}
 use mathlib.Core.Path.{_≡_}
 use mathlib.Core.Bool.{true}
 use lib.ListN.{length}
-use Rattle.fit.specs.Fits.{known}
+use Rattle.types.specs.Width.{known}
 use Rattle.ancestry.specs.Graph.{highestBelow}
 use Rattle.ancestry.specs.Counts.{countsOf, lowestBelow}
 use Rattle.traverse.specs.Traversal.{Parts, genIn, parentsIn, commitRule, badCommit, commitRules, keyIn}

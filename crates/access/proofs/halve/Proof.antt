@@ -7,7 +7,7 @@ use borrow.Author.Needs.{needs}
 use lib.ListN.{length}
 use Rattle.words.specs.Big.{number}
 use Rattle.access.specs.Lookup.{keyOf, halving}
-use Rattle.fit.proofs.Fitting.{small-product}
+use Rattle.types.proofs.Widths.{small-product}
 use Rattle.access.proofs.Halving.{halving-none, turn-less, turn-equal, turn-greater}
 use Rattle.access.proofs.halve.Statement.{statement}
 use Rattle.access.proofs.halve.Tie as tie

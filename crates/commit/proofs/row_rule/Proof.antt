@@ -3,7 +3,7 @@ use Prim.Native.Nat.{_+_}
 use native.Mathlib.Omega.{arith}
 use Rattle.words.proofs.Rows.{rows}
 use Rattle.commit.specs.Commits.{rowRule}
-use Rattle.fit.proofs.Fitting.{small-product}
+use Rattle.types.proofs.Widths.{small-product}
 use borrow.Author.Needs.{needs}
 use Rattle.commit.proofs.row_rule.Statement.{statement}
 use Rattle.commit.proofs.row_rule.Tie as tie

@@ -1,25 +1,26 @@
 -- `rules::entry_in` meets its contract: each return is the row of `entryIn` that its branch names.
-use Prim.Native.Nat.{_*_, _^_, _<_}
+use Prim.Native.Nat.{_*_, _^_, _≤_, _<_}
 use mathlib.Core.Bool.{true}
-use mathlib.Core.Path.{_≡_}
+use mathlib.Core.Path.{_≡_, sym, _∙_}
 use native.Mathlib.Omega.{arith}
-use borrow.Author.Tests.{eq-eqb, ne-eqb}
-use Rattle.fit.specs.Fits.{known}
-use Rattle.fit.proofs.Fitting.{small-product}
+use borrow.Author.Tests.{not-true, not-false}
+use Rattle.types.specs.Width.{known}
+use Rattle.types.proofs.Widths.{width-bounds, small-ids}
 use Rattle.rules.proofs.Entries.{entry-strange, entry-fan, entry-ids, entry-rows, entry-id, entry-bucket, entry-tree}
 use borrow.Author.Needs.{needs}
 use Rattle.rules.proofs.entry_in.Statement.{statement}
 use Rattle.rules.proofs.entry_in.Tie as tie
 
 -- the width is known, and the fan is whole
-wide : (c : tie.Else1) → known (c .before .before .before .before .args .w) ≡ true
-wide c = eq-eqb _ 20 (c .if1 .left)
+wide : (c : tie.Else1) → known (c .before .before .before .before .before .args .w) ≡ true
+wide c = sym (c .before .known .ensures) ∙ not-false _ (c .if1 .left)
 
-small : (c : tie.Else2) → (let a = c .before .before .before .before .before .args in a .c * a .w < 2 ^ 63)
-small c = let a = c .before .before .before .before .before .args in small-product (a .c) (a .w) (omega arith) (omega arith)
+small : (c : tie.Else2) → (let start = c .before .before .before .before .before .before in
+    (start .args .c * start .args .w < 2 ^ 63) × ((20 ≤ start .args .w) × (start .args .w ≤ 32)))
+small c = (small-ids _ (wide (c .before)) _ (omega arith), width-bounds _ (wide (c .before)))
 
 returns : tie.Need-returns
-returns c = entry-strange _ _ _ _ _ (ne-eqb _ 20 (c .if1 .taken))
+returns c = entry-strange _ _ _ _ _ (sym (c .before .known .ensures) ∙ not-true _ (c .if1 .taken))
 
 returns-2 : tie.Need-returns-2
 returns-2 c = entry-fan _ _ _ _ _ (wide (c .before)) (c .if2 .taken)
@@ -63,6 +64,7 @@ pub entry-in-spec : {M : Type 1} → statement M
 entry-in-spec =
     tie.close
     (tie.spec
+    (λ c κs. search needs)
     returns
     returns-2
     (λ c. omega (arith, small c))
@@ -73,11 +75,11 @@ entry-in-spec =
     (λ c. search needs)
     (λ c. search needs)
     returns-4
-    (λ c κs. search needs)
+    (λ c κs. (wide (c .before .before .before), c .before .if3 .left))
     returns-5
     (λ c. search needs)
-    (λ c. search needs)
+    (λ c. omega (arith, small (c .before .before .before .before .before)))
     (λ c κs. search needs)
     returns-6
-    (λ c κs. search needs)
+    (λ c κs. let rows = c .before .before .before .before .before in (wide (rows .before .before .before), rows .if4 .left))
     returns-7)
