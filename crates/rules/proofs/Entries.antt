@@ -8,7 +8,7 @@ use native.Mathlib.Nat.{suc-mul}
 use lib.Dec.{ltb, leb, eqb, lit<}
 use lib.ListN.{length, getD}
 use denote.Ref.{RefT}
-use borrow.Author.Tests.{lt-ltb, le-ltb, le-leb, lt-leb, ltb-true, ltb-false, leb-false, ne-eqb, eqb-true, eqb-false}
+use borrow.Author.Tests.{lt-ltb, le-ltb, le-leb, lt-leb, ltb-true, ltb-false, leb-false, ne-eqb, eqb-false}
 use Rattle.words.specs.Big.{be, number}
 use Rattle.words.specs.First.{_if_else_}
 use Rattle.order.specs.Order.{order}
@@ -17,7 +17,7 @@ use Rattle.order.specs.declared.Order.the-variants.{Less, Equal, Greater}
 use Rattle.words.specs.Part.{PartOf, RecordsOf}
 use Rattle.order.proofs.Ordered.{Says, told}
 use Rattle.words.proofs.Parts.{run-in, part-length, part-number}
-use Rattle.words.proofs.Rows.{hit, miss, pass, eq-not, ne-not, and-first, and-both, and-second}
+use Rattle.words.proofs.Rows.{hit, miss, pass, and-first, and-both, and-second}
 use Rattle.types.specs.Width.{known}
 use Rattle.access.specs.Lookup.{keyOf, lower, upper}
 use Rattle.rules.specs.Rules.{_or_, idRule, bucketRule, treeRule, entryRule, entryIn}

@@ -19,7 +19,8 @@ use Rattle.file.specs.declared.Opening.{Opening}
 use Rattle.file.specs.declared.Opening.the-variants.{Open, Refused}
 use Rattle.fit.proofs.Opens.{opened}
 use Rattle.rules.specs.Rules.{sumRule, nameRule, sumIn, nameIn}
-use Rattle.traverse.specs.Traversal.{partsOf, summaryOf, refusedBy, traverseBy, oneRule, onePlace, traversal, notPassed}
+use Rattle.traverse.specs.Traversal.{summaryOf, refusedBy, traverseBy, oneRule, onePlace, traversal, notPassed}
+use Rattle.tries.specs.Tries.{partsOf}
 use Rattle.traverse.specs.Scans.{ScannedAs}
 use Rattle.traverse.specs.declared.commits.Scanned.{Scanned}
 use Rattle.traverse.specs.declared.Verdict.the-variants.{Accepted}

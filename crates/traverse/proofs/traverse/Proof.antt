@@ -14,7 +14,8 @@ opened-requires c κs =
     let opened = c .before .before .before in
     let list = opened .before in
     let start = list .before .before .before .before .before in
-    (sym (opened .«open» .ensures) ∙ c .before .f .given .1, one-record 32 (now (start .args .chain)) (now (start .args .list)) (list .before .before .one .ensures) (list .if1 .left))
+    let one = one-record 32 (now (start .args .chain)) (now (start .args .list)) (list .before .before .one .ensures) (list .if1 .left) in
+    (sym (opened .«open» .ensures) ∙ c .before .f .given .1, one)
 
 returns-2 : tie.Need-returns-2
 returns-2 c =
