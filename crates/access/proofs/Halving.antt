@@ -1,17 +1,17 @@
 -- Laws of search by halving: one for each way, an induction, and what it finds. Nothing later sees how many turns it may take.
 use Prim.Native.Nat.{ℕ, zero, suc, _+_, _-_, _*_, _/_, _≤_, _<_}
 use mathlib.Core.List.{List}
-use mathlib.Core.Path.{_≡_, refl, sym, ap, _∙_}
+use mathlib.Core.Path.{_≡_, refl, ap, _∙_}
 use mathlib.Core.Logic.{⊎-elim}
 use native.Mathlib.Omega.{arith}
-use native.Mathlib.Nat.{eq-or-lt-of-le, le-refl}
+use native.Mathlib.Nat.{le-refl}
 use borrow.Author.Tests.{le-leb, lt-leb}
 use Rattle.words.specs.First.{_if_else_}
 use Rattle.types.specs.declared.refusal.Refusal.{Refusal}
 use Rattle.types.specs.declared.file.Position.{Position}
 use Rattle.words.specs.Big.{be}
 use Rattle.order.specs.Order.{order}
-use Rattle.words.proofs.Numbers.{le-or-lt}
+use Rattle.words.proofs.Numbers.{le-or-lt, by-order}
 use Rattle.order.proofs.Ordered.{order-less, order-equal, order-greater, told}
 use Rattle.order.specs.declared.Order.{Order}
 use Rattle.order.specs.declared.Order.the-variants.{Less, Equal, Greater}
@@ -50,12 +50,12 @@ module _ (key : ℕ → ℕ) (x : ℕ) where
         enough (hi - lo - 1) (hi - (mid lo hi + 1)) (mid lo hi + 1) hi (omega arith) (omega arith),
       )
 
-  pub halving-none : (lo hi : ℕ) → hi ≤ lo → halving key x lo hi ≡ Absent
+  pub halving-none : {lo hi : ℕ} → hi ≤ lo → halving key x lo hi ≡ Absent
   unfolding halving turns
-  halving-none lo hi h = let n : hi - lo ≡ 0 = omega arith in rw n
+  halving-none {lo} {hi} h = let n : hi - lo ≡ 0 = omega arith in rw n
 
   -- m is the middle
-  module _ (lo hi : ℕ) {m : ℕ} (h : lo < hi) (e : m ≡ mid lo hi) where
+  module _ {lo hi m : ℕ} (h : lo < hi) (e : m ≡ mid lo hi) where
     pub halving-less : x < key m → halving key x lo hi ≡ halving key x lo m
     unfolding turn
     halving-less g = rw e (opens lo hi h ∙ rw (order-less x (key (mid lo hi)) (rw e at g)))
@@ -75,17 +75,15 @@ module _ (key : ℕ → ℕ) (x : ℕ) where
       (equal : (lo hi m : ℕ) → lo ≤ m → m < hi → x ≡ key m → P lo hi (found m))
       (greater : (lo hi m : ℕ) (r : Found) → lo ≤ m → m < hi → key m < x → P (m + 1) hi r → P lo hi r) where
     by-turns : (n lo hi : ℕ) → hi - lo ≤ n → P lo hi (halving key x lo hi)
-    by-turns zero lo hi h = let g : hi ≤ lo = omega arith in rw (halving-none lo hi g) (none lo hi g)
+    by-turns zero lo hi h = let g : hi ≤ lo = omega arith in rw (halving-none g) (none lo hi g)
     by-turns (suc n) lo hi h =
-        ⊎-elim (λ (g : hi ≤ lo). rw (halving-none lo hi g) (none lo hi g))
-        (λ (g : lo < hi). ⊎-elim
-        (λ (k : key (mid lo hi) ≤ x). ⊎-elim
-        (λ (e : key (mid lo hi) ≡ x). rw (halving-equal lo hi g refl (sym e))
-        (equal lo hi (mid lo hi) (omega arith) (omega arith) (sym e)))
-        (λ (k : key (mid lo hi) < x). rw (halving-greater lo hi g refl k)
-        (greater lo hi (mid lo hi) _ (omega arith) (omega arith) k (by-turns n (mid lo hi + 1) hi (omega arith)))) (eq-or-lt-of-le k))
-        (λ (k : x < key (mid lo hi)). rw (halving-less lo hi g refl k)
-        (less lo hi (mid lo hi) _ (omega arith) (omega arith) k (by-turns n lo (mid lo hi) (omega arith)))) (le-or-lt (key (mid lo hi)) x))
+        ⊎-elim (λ (g : hi ≤ lo). rw (halving-none g) (none lo hi g))
+        (λ (g : lo < hi). by-order x (key (mid lo hi))
+        (λ k. rw (halving-less g refl k)
+        (less lo hi (mid lo hi) _ (omega arith) (omega arith) k (by-turns n lo (mid lo hi) (omega arith))))
+        (λ k. rw (halving-equal g refl k) (equal lo hi (mid lo hi) (omega arith) (omega arith) k))
+        (λ k. rw (halving-greater g refl k)
+        (greater lo hi (mid lo hi) _ (omega arith) (omega arith) k (by-turns n (mid lo hi + 1) hi (omega arith)))))
         (le-or-lt hi lo)
 
     pub halving-ind : (lo hi : ℕ) → P lo hi (halving key x lo hi)
@@ -118,21 +116,16 @@ module _ (key : ℕ → ℕ) (x : ℕ) where
     -- of two places below n, the one with the smaller number comes first
     before : (m i : ℕ) → m < n → i < n → key i < key m → i < m
     before m i a b k =
-        ⊎-elim
-        (λ (h : m ≤ i).
-        ⊎-elim
-        (λ (d : m ≡ i). let z : key m ≡ key i = ap key d in absurd (omega arith))
-        (λ (d : m < i). let z = up m i d b in absurd (omega arith))
-        (eq-or-lt-of-le h))
-        (λ (h : i < m). h)
-        (le-or-lt m i)
+        by-order i m (λ h. h)
+        (λ h. let z : key i ≡ key m = ap key h in absurd (omega arith))
+        (λ h. let z = up m i h b in absurd (omega arith))
 
     only : (m i : ℕ) → m < n → i < n → key m ≡ key i → m ≡ i
     only m i a b k =
-        ⊎-elim
-        (λ (h : m ≤ i). ⊎-elim (λ (d : m ≡ i). d) (λ (d : m < i). let z = up m i d b in absurd (omega arith)) (eq-or-lt-of-le h))
-        (λ (h : i < m). let z = up i m h a in absurd (omega arith))
-        (le-or-lt m i)
+        by-order m i
+        (λ h. let z = up m i h b in absurd (omega arith))
+        (λ h. h)
+        (λ h. let z = up i m h a in absurd (omega arith))
 
     pub halving-whole : (lo hi i : ℕ) → hi ≤ n → lo ≤ i → i < hi → x ≡ key i → halving key x lo hi ≡ found i
     halving-whole lo hi =
@@ -145,19 +138,19 @@ module _ (key : ℕ → ℕ) (x : ℕ) where
         lo hi
 
 -- a turn of the loop: what is left answers as the whole does; r is how x stands to the middle
-module _ (key : ℕ → ℕ) (x lo hi m : ℕ) {all : Found} {r : Order} (e : all ≡ halving key x lo hi) (h : lo < hi)
+module _ (key : ℕ → ℕ) (x : ℕ) {lo hi m : ℕ} {all : Found} {r : Order} (e : all ≡ halving key x lo hi) (h : lo < hi)
     (d : m ≡ lo + (hi - lo) / 2) (o : r ≡ order x (key m)) where
   middle : m ≡ mid lo hi
   middle = omega arith
 
   pub turn-less : r ≡ Less → all ≡ halving key x lo m
-  turn-less t = e ∙ halving-less key x lo hi h middle (told _ _ o t)
+  turn-less t = e ∙ halving-less key x h middle (told _ _ o t)
 
   pub turn-equal : r ≡ Equal → all ≡ found m
-  turn-equal t = e ∙ halving-equal key x lo hi h middle (told _ _ o t)
+  turn-equal t = e ∙ halving-equal key x h middle (told _ _ o t)
 
   pub turn-greater : r ≡ Greater → all ≡ halving key x (m + 1) hi
-  turn-greater t = e ∙ halving-greater key x lo hi h middle (told _ _ o t)
+  turn-greater t = e ∙ halving-greater key x h middle (told _ _ o t)
 
 -- the fan entry before, of the first bucket and of another
 pub lower-zero : (p : List ℕ) {b : ℕ} → b ≡ 0 → 0 ≡ lower p b

@@ -12,6 +12,8 @@ use types::refusal::Refusal;
 use words::big::be32;
 use words::part::part;
 ghost use mathlib.Core.Path.{_≡_};
+ghost use Rattle.access.specs.Said.{askingSaid, foundSaid};
+ghost use Rattle.types.specs.Said.{Answers};
 ghost use Prim.Native.Nat.{_+_, _*_, _<_};
 ghost use lib.ListN.{length};
 ghost use Rattle.types.specs.Refusals.{refusal};
@@ -85,14 +87,14 @@ fn asked(m: u32) -> Asking
 
 // Which refusal the id of a commit meets.
 pub fn which(s: &[u8], f: File, pos: Position) -> Asking
-    ensures { λ r. ⌜ r ≡ asking (askRule (now (s .entry)) f (f .commits) (pos .0)) ⌝ }
+    ensures { λ r. ⌜ Answers askingSaid r (asking (askRule (now (s .entry)) f (f .commits) (pos .0))) ⌝ }
 {
     asked(ask(s, f, f.commits, pos.0))
 }
 
 // Which refusal a base id meets.
 pub fn which_base(s: &[u8], f: File, j: u32) -> Asking
-    ensures { λ r. ⌜ r ≡ asking (askRule (now (s .entry)) f (f .bases) j) ⌝ }
+    ensures { λ r. ⌜ Answers askingSaid r (asking (askRule (now (s .entry)) f (f .bases) j)) ⌝ }
 {
     asked(ask(s, f, f.bases as u32, j))
 }
@@ -147,7 +149,7 @@ fn refused(number: u32) -> Found
 
 // The position of the id `x`: the fan's bounds and halving, on unsorted ids too.
 pub fn lookup(s: &[u8], f: File, x: &[u8]) -> Found
-    ensures is { λ r. ⌜ r ≡ lookupOf (now (s .entry)) f (now (x .entry)) ⌝ }
+    ensures is { λ r. ⌜ Answers foundSaid r (lookupOf (now (s .entry)) f (now (x .entry))) ⌝ }
     ensures right { λ r. ⌜ Right (now (s .entry)) f (now (x .entry)) r ⌝ }
 {
     let m = fit(s, f);

@@ -1,7 +1,6 @@
 -- A lookup in a chain whose files are in order finds an id exactly if some file stores it, at its lowest position.
 use Prim.Native.Nat.{ℕ, zero, suc, _+_, _-_, _≤_, _<_}
 use mathlib.Core.List.{List}
-use mathlib.Core.Bool.{true}
 use mathlib.Core.Path.{_≡_, refl, sym, ap, _∙_}
 use mathlib.Core.Logic.{⊎-elim}
 use native.Mathlib.Omega.{arith}
@@ -18,7 +17,7 @@ use Rattle.list.specs.List.{recordsOf, lengthAt}
 use Rattle.file.specs.declared.File.{File}
 use Rattle.file.specs.declared.Opening.{Opening}
 use Rattle.file.specs.declared.Opening.the-variants.{Open, Refused}
-use Rattle.fit.proofs.Opens.{opened as file-opened, rising}
+use Rattle.fit.proofs.Opens.{rising}
 use Rattle.access.specs.Lookup.{found, stored, Finds, Right, lookupOf as lookupIn}
 use Rattle.access.proofs.Halving.{found-same}
 use Rattle.access.proofs.Stores.{stored-long, stored-bytes, answers, both}
@@ -27,10 +26,14 @@ use Rattle.ask.specs.Lookups.{findIn, place, shift, findAt, lookFrom, lo
 use Rattle.ask.specs.Theorems.{storedIn, idOf, Sorted, Exact, Right as Promised, Agrees}
 use Rattle.ask.specs.declared.lookup.Found.{Found}
 use Rattle.ask.specs.declared.lookup.Found.the-variants.{Absent}
+use Rattle.graph.proofs.Passing.{file-opened, count-open}
 use Rattle.graph.proofs.Standing.{stands}
 
-place-same : (m i : ℕ) → place m ≡ place i → m ≡ i
-place-same m i e = let z : _≡_ {A = Position} (record { 0 = m }) (record { 0 = i }) = cc in ap (λ (p : Position). p .0) z
+place-same : {r : Found} (m i : ℕ) → r ≡ place m → r ≡ place i → m ≡ i
+place-same m i d e = let z : _≡_ {A = Position} (record { 0 = m }) (record { 0 = i }) = cc in ap (λ (p : Position). p .0) z
+
+place-some : {r : Found} (m : ℕ) → r ≡ place m → r ≡ Absent → ⊥
+place-some m d e = let z : _≡_ {A = ℕ} 0 1 = cc in omega arith
 
 -- r is the lowest position of x among those from `from` up to `to`
 data Lowest (id : ℕ → List ℕ) (x : List ℕ) (from to : ℕ) (r : Found) : Type 0 where
@@ -53,18 +56,18 @@ module _ (z : ℕ) (c l : List ℕ) where
   exact-of : {x : List ℕ} {r : Found} → Lowest (idOf z c l) x 0 (commitsIn z c l) r → Exact z c l x r
   exact-of (here h e a b d low) =
       record {
-        inside = λ m q. (let y : h ≡ m = place-same h m (sym e ∙ q) in omega arith);
-        sound = λ m q. (let y : h ≡ m = place-same h m (sym e ∙ q) in rw (← y) d);
-        lowest = λ m q g p. (let y : h ≡ m = place-same h m (sym e ∙ q) in low g (omega arith) (omega arith));
+        inside = λ m q. omega (arith, place-same h m e q);
+        sound = λ m q. rw (← place-same h m e q) d;
+        lowest = λ m q g p. low g (omega arith) (omega (arith, place-same h m e q));
         whole = λ g p v. (h, e, ⊎-elim (λ (y : h ≤ g). y) (λ (y : g < h). absurd (low g (omega arith) y v)) (le-or-lt h g));
-        absent = λ q g p v. (let y : _≡_ {A = ℕ} 0 1 = cc in omega arith);
+        absent = λ q g p v. place-some h e q;
         none = λ y. absurd (y h b d);
       }
   exact-of (nowhere e low) =
       record {
-        inside = λ m q. (let y : _≡_ {A = ℕ} 0 1 = cc in absurd (omega arith));
-        sound = λ m q. (let y : _≡_ {A = ℕ} 0 1 = cc in absurd (omega arith));
-        lowest = λ m q g p v. (let y : _≡_ {A = ℕ} 0 1 = cc in omega arith);
+        inside = λ m q. absurd (place-some m q e);
+        sound = λ m q. absurd (place-some m q e);
+        lowest = λ m q g p v. place-some m q e;
         whole = λ g p v. absurd (low g (omega arith) p v);
         absent = λ q g p v. low g (omega arith) p v;
         none = λ y. e;
@@ -80,21 +83,18 @@ module _ (z : ℕ) (c l : List ℕ) where
   unfolding partAt
   part-bytes bc k = bytes-part c (startAt z c l k) (lengthAt z l k) bc
 
+  -- 41 asks for ids of 20 bytes, and those of each file have as many
   wide : (k : ℕ) {f : File} → openAt z c l k ≡ Open f → f .width ≡ 20
-  unfolding openAt
-  wide k {f} e = eqb-true (f .width) 20 (file-opened true (partAt z c l k) e .known)
+  wide k {f} e = eqb-true (f .width) 20 (file-opened z c l k e .known)
 
   module _ (s : Sorted z c l) (bc : Bytes c) where
-    module _ (x : List ℕ) (bx : Bytes x) (w : length x ≡ 20) where
+    -- x has the width of the ids of each file
+    module _ (x : List ℕ) (bx : Bytes x) (w : (k : ℕ) (f : File) → openAt z c l k ≡ Open f → length x ≡ f .width) where
       -- file k is open: what it finds, else what the files after it say
       module _ (k : ℕ) (b : k < recordsOf z l) {f : File} (e : openAt z c l k ≡ Open f) where
         finds : Finds (partAt z c l k) f x (lookupIn (partAt z c l k) f x)
         unfolding openAt Right
-        finds = both (partAt z c l k) f x (part-bytes bc k) bx refl .1 e (s .ordered k b f e) (w ∙ sym (wide k e))
-
-        counts : countAt z c l k ≡ f .commits
-        unfolding countAt commitsOf
-        counts = rw e
+        finds = both (partAt z c l k) f x (part-bytes bc k) bx refl .1 e (s .ordered k b f e) (w k f e)
 
         -- a position of the file by its place there
         placed : (g : ℕ) → firstAt z c l k ≤ g → g < firstAt z c l (k + 1)
@@ -102,14 +102,14 @@ module _ (z : ℕ) (c l : List ℕ) where
         placed g a d =
             let h : g - firstAt z c l k < countAt z c l k = omega (arith, before-next (countAt z c l) k) in
             let q : firstAt z c l k + (g - firstAt z c l k) ≡ g = omega arith in
-            (omega (arith, counts), ap (idOf z c l) (sym q) ∙ id-at k (g - firstAt z c l k) b h e)
+            (omega (arith, count-open z c l k e), ap (idOf z c l) (sym q) ∙ id-at k (g - firstAt z c l k) b h e)
 
         open-step : {to : ℕ} {rest : Found} → firstAt z c l (k + 1) ≤ to → Lowest (idOf z c l) x (firstAt z c l (k + 1)) to rest
             → Lowest (idOf z c l) x (firstAt z c l k) to (shift (firstAt z c l k) (lookupIn (partAt z c l k) f x) rest)
         unfolding shift openAt
         open-step {to} {rest} t r =
             ⊎-elim (λ a. let p = finds .sound (a .0) (a .1) in
-            let h : a .0 < countAt z c l k = omega (arith, counts, p .0) in
+            let h : a .0 < countAt z c l k = omega (arith, count-open z c l k e, p .0) in
             rw (a .1) (here (firstAt z c l k + a .0) refl (omega arith) (omega (arith, before-next (countAt z c l) k))
             (id-at k (a .0) b h e ∙ p .1)
             (λ g y v q. let j = placed g y (omega (arith, before-next (countAt z c l) k)) in
@@ -117,7 +117,7 @@ module _ (z : ℕ) (c l : List ℕ) where
             (λ a. rw a (later (firstAt z c l k)
             (omega (arith, before-next (countAt z c l) k))
             (λ g y v q. (let j = placed g y v in finds .absent a (g - firstAt z c l k) (j .0) (sym (j .1) ∙ q))) r))
-            (answers (partAt z c l k) x e bx (w ∙ sym (wide k e)))
+            (answers (partAt z c l k) x e bx (w k f e))
 
       step : (k : ℕ) {to : ℕ} {rest : Found} → k < recordsOf z l → firstAt z c l (k + 1) ≤ to
           → Lowest (idOf z c l) x (firstAt z c l (k + 1)) to rest
@@ -140,18 +140,18 @@ module _ (z : ℕ) (c l : List ℕ) where
           step k (omega arith) (before-le (countAt z c l) (k + 1) (recordsOf z l) (omega arith))
           (along left (k + 1) (omega arith))
 
-      pub exact : Exact z c l x (lookupOf z c l x)
-      unfolding lookupOf _if_else_ before
-      exact =
-          rw (le-ltb 0 (opened z c l .number) (omega (arith, s .opens)), eq-not (length x) 20 w)
-          (exact-of (along (recordsOf z l) 0 (omega arith)))
+    pub exact : (x : List ℕ) → Bytes x → length x ≡ 20 → Exact z c l x (lookupOf z c l x)
+    unfolding lookupOf _if_else_ before
+    exact x bx w =
+        rw (le-ltb 0 (opened z c l .number) (omega (arith, s .opens)), eq-not (length x) 20 w)
+        (exact-of (along x bx (λ k f e. w ∙ sym (wide k e)) (recordsOf z l) 0 (omega arith)))
 
     -- the id at a position is an id
     module _ (g : ℕ) (h : g < commitsIn z c l) {f : File} (e : openAt z c l (fileOf z c l g) ≡ Open f) (b : posOf z c l g < f .commits) where
       id-long : length (idOf z c l g) ≡ 20
       unfolding idOf storedIn openAt
       id-long =
-          rw e (stored-long (file-opened true _ e) (rising _ e) (posOf z c l g) b
+          rw e (stored-long (file-opened z c l _ e) (rising _ e) (posOf z c l g) b
           ∙ wide (fileOf z c l g) e)
 
       id-bytes : Bytes (idOf z c l g)

@@ -1,8 +1,8 @@
--- A pass that looks for an id: what was seen, else what is still to come, answers as the whole does.
+-- A pass that looks for an id. What stands when it is at file k is `Looking`: what was seen, else what the files from k on say, is what all say.
 use Prim.Native.Nat.{ℕ, suc, _+_, _-_, _≤_, _<_}
 use mathlib.Core.List.{List}
 use mathlib.Core.Bool.{Bool, true, false}
-use mathlib.Core.Path.{_≡_, refl, sym, ap, _∙_}
+use mathlib.Core.Path.{_≡_, refl, ap, _∙_}
 use native.Mathlib.Omega.{arith}
 use native.Mathlib.Nat.{sub-zero}
 use lib.Dec.{ltb}
@@ -19,7 +19,7 @@ use Rattle.access.specs.declared.Found.{Found as FileFound}
 use Rattle.access.specs.declared.Found.the-variants.{At as FileAt, Absent as FileAbsent, Refused as FileRefused}
 use Rattle.access.proofs.Looks.{found-below}
 use Rattle.words.proofs.Rows.{eq-not, ne-not}
-use Rattle.graph.specs.Chain.{placed, partAt, openAt, firstAt, opened, Listed}
+use Rattle.graph.specs.Chain.{placed, partAt, openAt, opened, Listed}
 use Rattle.ask.specs.Lookups.{findIn, place, shift, findAt, lookFrom, lookupOf, noteFile, notedOf, hitOr, Looked}
 use Rattle.ask.specs.declared.lookup.Found.{Found}
 use Rattle.ask.specs.declared.lookup.Found.the-variants.{Absent, Refused as Not}
@@ -35,10 +35,10 @@ note-shift h sum y rest = go (h .seen) refl y
     go : (t : Bool) → h .seen ≡ t → (y : FileFound)
         → (place (h .pos) if t else shift sum y rest)
         ≡ (place ((h if t else noteFile h sum y) .pos) if (h if t else noteFile h sum y) .seen else rest)
-    go true e y = sym (ap (λ (b : Bool). (place (h .pos) if b else rest)) e)
+    go true e y = rw e
     go false e (FileAt p) = refl
-    go false e FileAbsent = sym (ap (λ (b : Bool). (place (h .pos) if b else rest)) e)
-    go false e (FileRefused r) = sym (ap (λ (b : Bool). (place (h .pos) if b else rest)) e)
+    go false e FileAbsent = rw e
+    go false e (FileRefused r) = rw e
 
 -- the ways through what is noted
 module _ (h : Hit) (sum : ℕ) (y : FileFound) where
@@ -66,7 +66,7 @@ module _ {z : ℕ} {c l : List ℕ} {n : ℕ} (d : Listed z c l n) (x : List ℕ
         let y : n - k ≡ 0 = omega arith in
         record {
           refusal = along-ends z c l d at sum (p .along) g;
-          answer = λ w. p .answer ∙ ap (λ (m : ℕ). hitOr h (lookFrom z c l x k m)) y;
+          answer = λ w. p .answer ∙ rw y;
         }
 
     module _ (g : k < n) where
@@ -83,15 +83,10 @@ module _ {z : ℕ} {c l : List ℕ} {n : ℕ} (d : Listed z c l n) (x : List ℕ
         look-next {s} q =
             let b : n - k ≡ suc (n - (k + 1)) = omega arith in
             let y : FileFound = lookupIn s f x in
-            let a : findAt z c l x k ≡ y = rw e (ap (λ (m : List ℕ). lookupIn m f x) (sym q)) in
+            let a : findAt z c l x k ≡ y = rw (e, q) in
             record {
               along = along-next z c l d at sum (p .along) g f e (length s) (ap length q);
-              answer =
-                  p .answer
-                  ∙ ap (λ (m : ℕ). hitOr h (lookFrom z c l x k m)) b
-                  ∙ ap (λ (m : FileFound). hitOr h (shift (firstAt z c l k) m (lookFrom z c l x (k + 1) (n - (k + 1))))) a
-                  ∙ ap (λ (m : ℕ). hitOr h (shift m y (lookFrom z c l x (k + 1) (n - (k + 1))))) (sym (p .along .total))
-                  ∙ note-shift h sum y _;
+              answer = p .answer ∙ rw (b, a, ← p .along .total) (note-shift h sum y _);
             }
 
         -- a position that is found fits

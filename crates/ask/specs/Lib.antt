@@ -1,3 +1,4 @@
 pub mod Questions
 pub mod Lookups
 pub mod Theorems
+pub mod Said

@@ -12,6 +12,8 @@ use types::refusal::ID_WIDTH;
 use types::refusal::Refusal;
 use words::part::part;
 ghost use mathlib.Core.Path.{_≡_};
+ghost use Rattle.ask.specs.Said.{foundSaid};
+ghost use Rattle.types.specs.Said.{Answers};
 ghost use Prim.Native.Nat.{ℕ, _+_, _<_};
 ghost use Rattle.access.specs.Lookup.{found, lookupOf as lookupIn};
 ghost use Rattle.graph.specs.Chain.{Listed};
@@ -93,7 +95,7 @@ fn look(chain: &[u8], list: &[u8], z: u32, n: u32, x: &[u8]) -> Search
 
 // The position of the id `x`.
 pub fn find(chain: &[u8], list: &[u8], x: &[u8]) -> Found
-    ensures is { λ r. ⌜ r ≡ lookupOf 32 (now (chain .entry)) (now (list .entry)) (now (x .entry)) ⌝ }
+    ensures is { λ r. ⌜ Answers foundSaid r (lookupOf 32 (now (chain .entry)) (now (list .entry)) (now (x .entry))) ⌝ }
     ensures right { λ r. ⌜ Right 32 (now (chain .entry)) (now (list .entry)) (now (x .entry)) r ⌝ }
 {
     let m = check(list, chain.len());

@@ -5,13 +5,15 @@ use graph::locate::Located;
 use graph::locate::locate;
 use types::graph::Position;
 use words::part::part;
-ghost use mathlib.Core.Path.{_≡_};
+ghost use Rattle.commit.specs.Said.{askedSaid};
+ghost use Rattle.access.specs.Said.{askingSaid};
+ghost use Rattle.types.specs.Said.{Answers};
 ghost use Rattle.graph.specs.Chain.{asked};
 ghost use Rattle.ask.specs.Questions.{askingBy, IdPart, TreePart, commitOf};
 
 // Which refusal the id or the tree at a position meets.
 pub fn which(chain: &[u8], list: &[u8], pos: Position) -> Asking
-    ensures { λ r. ⌜ r ≡ askingBy (asked 32 (now (chain .entry)) (now (list .entry)) (pos .0)) ⌝ }
+    ensures { λ r. ⌜ Answers askingSaid r (askingBy (asked 32 (now (chain .entry)) (now (list .entry)) (pos .0))) ⌝ }
 {
     match locate(chain, list, pos) {
         Located::Refused(q) => Asking::Refused(q),
@@ -51,7 +53,7 @@ pub fn tree_at<'a, 'b>(chain: &'a [u8], list: &'b [u8], pos: Position) -> &'a [u
 
 // The commit at a position: generation, time and both parent words.
 pub fn commit_at(chain: &[u8], list: &[u8], pos: Position) -> Asked
-    ensures { λ r. ⌜ r ≡ commitOf 32 (now (chain .entry)) (now (list .entry)) (pos .0) ⌝ }
+    ensures { λ r. ⌜ Answers askedSaid r (commitOf 32 (now (chain .entry)) (now (list .entry)) (pos .0)) ⌝ }
 {
     match locate(chain, list, pos) {
         Located::Refused(q) => Asked::Refused(q),

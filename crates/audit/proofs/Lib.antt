@@ -3,3 +3,5 @@ pub mod Meeting
 pub mod Heading
 pub mod Trying
 pub mod Filing
+pub mod Saying
+pub mod Results

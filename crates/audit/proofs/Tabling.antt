@@ -1,8 +1,8 @@
 -- The table of a chain's files: how a pass fills it, and the generation that is read by it.
-use Prim.Native.Nat.{ℕ, zero, suc, _+_, _-_, _*_, _/_, _≤_, _<_}
+use Prim.Native.Nat.{ℕ, _+_, _-_, _*_, _/_, _≤_, _<_}
 use mathlib.Core.List.{List}
 use mathlib.Core.Bool.{true}
-use mathlib.Core.Path.{_≡_, refl, sym, ap, subst, _∙_}
+use mathlib.Core.Path.{_≡_, sym, ap, subst, _∙_}
 use mathlib.Core.Logic.{⊎-elim}
 use native.Mathlib.Omega.{arith}
 use native.Mathlib.Nat.{eq-or-lt-of-le}
@@ -15,7 +15,7 @@ use Rattle.types.specs.declared.refusal.Refusal.{Refusal}
 use Rattle.words.specs.Big.{be}
 use Rattle.words.specs.Part.{RecordsOf}
 use Rattle.words.specs.Sums.{before}
-use Rattle.words.proofs.Adds.{before-next, before-le, which-back, within-back}
+use Rattle.words.proofs.Adds.{before-next, which-back, within-back}
 use Rattle.words.proofs.Parts.{take-in, records-in}
 use Rattle.list.specs.List.{recordsOf, lengthAt}
 use Rattle.fit.specs.Fits.{rowsPart}
@@ -167,23 +167,8 @@ module _ (z : ℕ) (c l : List ℕ) where
               opens = below-more (λ (i : ℕ). (f : File) × (openAt z c l i ≡ Open f)) k (p .opens) (f, e);
             }
 
-  -- a pass can be at every file of an open chain
+  -- what is read by a table that is right
   module _ {t : List ℕ} (p : Tabled z c l t) where
-    along-at : (k : ℕ) → k ≤ recordsOf z l → (at : ℕ) × (sum : ℕ) × Along z c l (recordsOf z l) k at sum
-    along-at zero h = (0, 0, along-begins z c l (p .listed))
-    along-at (suc k) h =
-        let a = along-at k (omega arith) in
-        let o = p .opens k (omega arith) in
-        let b = along-next z c l (p .listed) (a .0) (a .1) (a .2) (omega arith) (o .0) (o .1) _ refl in
-        let q : k + 1 ≡ suc k = omega arith in
-        (a .0 + length (partAt z c l k), a .1 + o .0 .commits, rw q at b)
-
-    -- so the positions are few
-    pub few-positions : (k : ℕ) → k ≤ recordsOf z l → firstAt z c l k * 36 ≤ 1073741824
-    few-positions k h =
-        let a = along-at k h .2 in
-        omega (arith, a .small, a .place, a .total, before-le (lengthAt z l) k (recordsOf z l) h, p .listed .files, p .listed .most)
-
     pub from-none : (g : ℕ) → firstIn t 0 ≤ g
     unfolding before
     from-none g = omega (arith, p .first 0 (omega arith))

@@ -37,7 +37,8 @@ use Rattle.audit.specs.declared.meets.Met.{Met}
 use Rattle.audit.specs.declared.commits.Tally.{Tally}
 use Rattle.audit.specs.declared.commits.Scanned.{Scanned}
 use Rattle.audit.proofs.Meeting.{met-rule, met-count, met-highest}
-use Rattle.audit.proofs.Tabling.{is-open, few-positions}
+use Rattle.audit.proofs.Tabling.{is-open}
+use Rattle.graph.proofs.Passing.{few-positions}
 
 -- the ways through a commit whose row was answered: s is how its parents went, g its generation
 module _ (s : Met) (g : ℕ) where
@@ -216,4 +217,4 @@ module _ (z : ℕ) (c l : List ℕ) (i : ℕ) where
 
   -- how many positions there are up to commit k
   pub try-few : {t : List ℕ} → Tabled z c l t → i < recordsOf z l → (k : ℕ) → k < countAt z c l i → (firstAt z c l i + k) * 36 ≤ 1073741824
-  try-few t b k h = omega (arith, few-positions z c l t (i + 1) (omega arith), before-next (countAt z c l) i)
+  try-few t b k h = omega (arith, few-positions z c l (t .listed) (i + 1) (omega arith), before-next (countAt z c l) i)

@@ -1,3 +1,4 @@
 pub mod Files
 pub mod Rules
 pub mod Scans
+pub mod Said

@@ -20,7 +20,9 @@ ghost use Prim.Native.Nat.{_-_, _≤_, _<_};
 ghost use Rattle.list.specs.List.{recordsOf};
 ghost use Rattle.ancestry.specs.Graph.{lengthOf};
 ghost use Rattle.audit.specs.Rules.{lengthBy, acceptedBy, refusedBy, verifyFrom, verification};
+ghost use Rattle.audit.specs.Said.{verificationSaid};
 ghost use Rattle.audit.specs.Scans.{Tabled, Before};
+ghost use Rattle.types.specs.Said.{Answers};
 
 // The length of the longest run of parent steps, or that some commit is its own ancestor.
 pub enum Length {
@@ -126,7 +128,7 @@ fn accepted(commits: usize, tally: Tally) -> Verification
 
 // Verifies a chain. What the answer comes to is said by `verify`.
 pub fn audit(chain: &[u8], list: &[u8]) -> Verification
-    ensures { λ r. ⌜ r ≡ verification 32 (now (chain .entry)) (now (list .entry)) ⌝ }
+    ensures { λ r. ⌜ Answers verificationSaid r (verification 32 (now (chain .entry)) (now (list .entry))) ⌝ }
 {
     let m = check(list, chain.len());
     if 0 < m.number {

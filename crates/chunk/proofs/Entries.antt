@@ -4,23 +4,14 @@ use mathlib.Core.List.{List}
 use mathlib.Core.Bool.{true, false}
 use mathlib.Core.Path.{_≡_, sym, ap, _∙_}
 use native.Mathlib.Omega.{arith}
-use borrow.Author.Tests.{lt-ltb, le-ltb, le-leb, lt-leb, eq-eqb, ne-eqb}
+use borrow.Author.Tests.{lt-ltb, le-ltb, le-leb, lt-leb}
 use Rattle.words.proofs.Rows.{refuse-some}
 use Rattle.types.specs.Refusals.{refusal}
 use Rattle.types.specs.declared.refusal.Refusal.{Refusal}
 use Rattle.words.specs.First.{_if_else_, first, refuse}
-use Rattle.words.proofs.Searches.{first-begins, first-stop, first-step, first-ends}
-use Rattle.chunk.specs.Index.{chunks, idAt, isAt, seen, entryRule, bad, chunkAt, chunkOf, indexRule, indexPlace, entryOf, nthOf, notListed}
+use Rattle.chunk.specs.Index.{chunks, idAt, isAt, seen, chunkAt, chunkOf, indexRule, indexPlace, entryOf, nthOf, notListed}
 use Rattle.chunk.specs.declared.Chunk.the-variants.{Absent}
 use Rattle.chunk.specs.declared.Indexed.the-variants.{Entry as Is, Past, Refused}
-
-pub isAt-yes : (l : List ℕ) (x i r : ℕ) → r ≡ idAt l i → r ≡ x → isAt l x i ≡ true
-unfolding isAt
-isAt-yes l x i r p q = eq-eqb _ _ (sym p ∙ q)
-
-pub isAt-no : (l : List ℕ) (x i r : ℕ) → r ≡ idAt l i → (r ≡ x → ⊥) → isAt l x i ≡ false
-unfolding isAt
-isAt-no l x i r p q = ne-eqb _ _ (λ e. q (p ∙ e))
 
 pub seen-yes : (l : List ℕ) (i x f : ℕ) → x ≡ idAt l i → f ≡ first (isAt l x) 0 i → f < i → seen l i ≡ true
 unfolding seen
@@ -29,16 +20,6 @@ seen-yes l i x f p q h = rw (← p, ← q) (lt-ltb f i h)
 pub seen-no : (l : List ℕ) (i x f : ℕ) → x ≡ idAt l i → f ≡ first (isAt l x) 0 i → i ≤ f → seen l i ≡ false
 unfolding seen
 seen-no l i x f p q h = rw (← p, ← q) (le-ltb f i h)
-
-pub bad-yes : (l : List ℕ) (i r : ℕ) → r ≡ entryRule l i → 0 < r → bad l i ≡ true
-unfolding bad
-bad-yes l i r p q = lt-ltb 0 (entryRule l i) (omega arith)
-
-pub bad-no : (l : List ℕ) (i r : ℕ) → r ≡ entryRule l i → r ≤ 0 → bad l i ≡ false
-unfolding bad
-bad-no l i r p q = le-ltb 0 (entryRule l i) (omega arith)
-
-pub ruleset searching = (first-begins, first-stop, first-step, first-ends, isAt-yes, isAt-no, seen-yes, seen-no, bad-yes, bad-no)
 
 -- a chunk that is found, and one that is not: e is where the search stopped
 module _ (l : List ℕ) (x : ℕ) {c e : ℕ} (p : c ≡ chunks l) (q : e ≡ first (isAt l x) 0 c) where

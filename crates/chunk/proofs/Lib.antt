@@ -1,2 +1,4 @@
 pub mod Entries
 pub mod Sound
+pub mod Saying
+pub mod Results

@@ -60,22 +60,17 @@ module _ (l : List ℕ) {c : ℕ} (e : ℕ) (p : c ≡ chunks l) where
           place
 
 -- an entry that is not refused
-range-fine : (n low a e : ℕ) → rangeRule n low a e ≡ 0 → (low ≤ a) × (a ≤ e) × (e ≤ n)
-unfolding rangeRule
-range-fine n low a e h =
-    let p1 = pass 9 _ _ (lit< tt) h in
-    let p2 = pass 9 _ _ (lit< tt) (p1 .1) in
-    let p3 = pass 9 _ _ (lit< tt) (p2 .1) in
-    let p4 = pass 9 _ _ (lit< tt) (p3 .1) in
-    (ltb-false _ _ (p1 .0), ltb-false _ _ (p3 .0), ltb-false _ _ (p4 .0))
-
 entry-fine : (l : List ℕ) (i : ℕ) → entryRule l i ≡ 0
     → (20 + 12 * chunks l ≤ offAt l i) × (offAt l i ≤ offAt l (i + 1)) × (offAt l (i + 1) ≤ length l)
-unfolding entryRule
+unfolding entryRule rangeRule
 entry-fine l i h =
     let p1 = pass 7 _ _ (lit< tt) h in
     let p2 = pass 8 _ _ (lit< tt) (p1 .1) in
-    range-fine _ _ _ _ (p2 .1)
+    let p3 = pass 9 _ _ (lit< tt) (p2 .1) in
+    let p4 = pass 9 _ _ (lit< tt) (p3 .1) in
+    let p5 = pass 9 _ _ (lit< tt) (p4 .1) in
+    let p6 = pass 9 _ _ (lit< tt) (p5 .1) in
+    (ltb-false _ _ (p3 .0), ltb-false _ _ (p5 .0), ltb-false _ _ (p6 .0))
 
 not-bad : (l : List ℕ) (i : ℕ) → bad l i ≡ false → entryRule l i ≡ 0
 unfolding bad

@@ -10,6 +10,8 @@ use index::seek;
 use types::refusal;
 use types::refusal::Refusal;
 ghost use mathlib.Core.Path.{_≡_};
+ghost use Rattle.chunk.specs.Said.{chunkSaid, indexedSaid};
+ghost use Rattle.types.specs.Said.{Answers};
 ghost use Prim.Native.Nat.{_+_};
 ghost use Rattle.types.specs.Refusals.{refusal};
 ghost use Rattle.chunk.specs.Index.{chunks, offAt, chunkOf, absent, startOf, sizeOf, indexRule, indexPlace, nthOf};
@@ -39,7 +41,7 @@ pub enum Indexed {
 
 // The chunk with the id `x`.
 pub fn find(s: &[u8], x: u32) -> Chunk
-    ensures { λ r. ⌜ r ≡ chunkOf (now (s .entry)) x ⌝ }
+    ensures { λ r. ⌜ Answers chunkSaid r (chunkOf (now (s .entry)) x) ⌝ }
 {
     let c = count(s);
     let e = seek(s, x, c);
@@ -111,7 +113,7 @@ pub fn check(s: &[u8]) -> Refusal
 
 // Entry `k` of a sound index, the last left out; 6 to 9 where the index is not sound.
 pub fn nth(s: &[u8], k: u32) -> Indexed
-    ensures { λ r. ⌜ r ≡ nthOf (now (s .entry)) k ⌝ }
+    ensures { λ r. ⌜ Answers indexedSaid r (nthOf (now (s .entry)) k) ⌝ }
 {
     let r = check(s);
     if 0 < r.number {

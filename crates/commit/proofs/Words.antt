@@ -5,7 +5,7 @@ use mathlib.Core.Path.{_≡_, sym, _∙_}
 use native.Mathlib.Omega.{arith}
 use lib.Dec.{lit<}
 use lib.ListN.{length}
-use borrow.Author.Tests.{le-leb, lt-leb, ltb-false, eq-eqb, ne-eqb, eqb-true, not-false}
+use borrow.Author.Tests.{le-leb, lt-leb, ltb-false, eq-eqb, ne-eqb}
 use Rattle.words.specs.First.{_if_else_, refuse}
 use Rattle.types.specs.Refusals.{refusal}
 use Rattle.types.specs.declared.refusal.Refusal.{Refusal}
@@ -34,12 +34,9 @@ module _ (x : ℕ) where
   edge-position n h = rw (ne-eqb x 0x70000000 n, lt-leb 0x80000000 x h)
 
 -- a row that is there
-pub row-there : (w n i : ℕ) → rowRule w n i ≡ 0 → (w ≡ 20) × (i * (w + 16) + (w + 16) ≤ n)
+pub row-there : (w n i : ℕ) → rowRule w n i ≡ 0 → i * (w + 16) + (w + 16) ≤ n
 unfolding rowRule
-row-there w n i e =
-    let p1 = pass 40 _ _ (lit< tt) e in
-    let p2 = pass 40 _ _ (lit< tt) (p1 .1) in
-    (eqb-true _ _ (not-false _ (p1 .0)), ltb-false n _ (p2 .0))
+row-there w n i e = ltb-false n _ (pass 40 _ _ (lit< tt) (pass 40 _ _ (lit< tt) e .1) .0)
 
 -- the ways through a row, and through a commit of a file: m is what the rule said
 module _ (w : ℕ) (p : List ℕ) (i : ℕ) {m : ℕ} (e : m ≡ rowRule w (length p) i) where

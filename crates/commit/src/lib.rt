@@ -5,9 +5,12 @@ use types::graph::Position;
 use types::refusal;
 use types::refusal::POSITION;
 use types::refusal::Refusal;
+use types::width::known;
 use words::big::be32;
 use words::part::part;
 ghost use mathlib.Core.Path.{_≡_};
+ghost use Rattle.commit.specs.Said.{askedSaid};
+ghost use Rattle.types.specs.Said.{Answers};
 ghost use Prim.Native.Nat.{_+_, _*_, _≤_, _<_};
 ghost use lib.ListN.{length};
 ghost use Rattle.types.specs.Refusals.{refusal};
@@ -50,7 +53,7 @@ fn parent_edge(raw: u32) -> ParentEdge
 fn row_rule(n: usize, w: usize, i: u32) -> u32
     ensures { λ r. ⌜ r ≡ rowRule w n i ⌝ }
 {
-    if w != 20 {
+    if !known(w) {
         return POSITION;
     }
     let r = w + 16;
@@ -79,7 +82,7 @@ fn fields(cdat: &[u8], at: usize) -> Commit
 
 // The commit in row `pos` of a CDAT chunk's own part, where ids have `w` bytes.
 pub fn commit_in(cdat: &[u8], w: usize, pos: types::file::Position) -> Asked
-    ensures { λ r. ⌜ r ≡ commitIn w (now (cdat .entry)) (pos .0) ⌝ }
+    ensures { λ r. ⌜ Answers askedSaid r (commitIn w (now (cdat .entry)) (pos .0)) ⌝ }
 {
     let i = pos.0;
     let m = row_rule(cdat.len(), w, i);
@@ -99,7 +102,7 @@ fn cdat<'a>(s: &'a [u8], f: File) -> &'a [u8]
 
 // A commit of a file.
 pub fn commit_at(s: &[u8], f: File, pos: types::file::Position) -> Asked
-    ensures { λ r. ⌜ r ≡ commitAt (now (s .entry)) f (pos .0) ⌝ }
+    ensures { λ r. ⌜ Answers askedSaid r (commitAt (now (s .entry)) f (pos .0)) ⌝ }
 {
     let m = ask(s, f, f.commits, pos.0);
     if 0 < m {

@@ -25,7 +25,6 @@ use flat::parts::trailer_flat;
 use flat::records::file_of;
 use flat::records::opened_flat;
 use flat::verdicts::traversal_flat;
-use flat::walks::phase_of;
 use flat::walks::stepped_flat;
 use flat::walks::total_flat;
 use marks::date_at;
@@ -42,6 +41,7 @@ use places::id_part;
 use places::sum_part;
 use places::tree_part;
 use sha1::sha1;
+use steps::phase_of;
 use sums::verify_checksum;
 use traverse::traverse;
 use types::file::Position;
@@ -53,6 +53,7 @@ ghost use Rattle.name.specs.Names.{nameOf};
 ghost use Rattle.file.specs.Table.{opening};
 ghost use Rattle.access.specs.Lookup.{asking, lookupOf};
 ghost use Rattle.commit.specs.Commits.{commitAt};
+ghost use Rattle.steps.specs.Said.{phaseOf};
 ghost use Rattle.parents.specs.Walks.{stepOf, totalOf};
 ghost use Rattle.parents.specs.Lists.{listOf, heldOf};
 ghost use Rattle.traverse.specs.Traversal.{traversal};
@@ -69,7 +70,6 @@ ghost use Rattle.flat.specs.Images.{
   flatEntry,
   flatFoundIn,
   flatCommit,
-  phaseOf,
   flatStepped,
   flatTotal,
   flatTraversal,

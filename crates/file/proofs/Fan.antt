@@ -6,8 +6,6 @@ use mathlib.Core.Path.{_≡_}
 use native.Mathlib.Omega.{arith}
 use borrow.Author.Tests.{lt-ltb, le-ltb}
 use Rattle.words.specs.Big.{be}
-use Rattle.words.specs.First.{_if_else_}
-use Rattle.words.proofs.Searches.{first-begins, first-stop, first-step, first-ends}
 use Rattle.file.specs.Table.{falls}
 
 -- a is the next entry and b this one
@@ -18,5 +16,3 @@ falls-yes p i a b d e h = lt-ltb (be 4 p (4 * (i + 1))) (be 4 p (4 * i)) (omega 
 pub falls-no : (p : List ℕ) (i a b : ℕ) → a ≡ be 4 p (4 * (i + 1)) → b ≡ be 4 p (4 * i) → b ≤ a → falls p i ≡ false
 unfolding falls
 falls-no p i a b d e h = le-ltb (be 4 p (4 * (i + 1))) (be 4 p (4 * i)) (omega arith)
-
-pub ruleset searching = (first-begins, first-stop, first-step, first-ends, falls-yes, falls-no)

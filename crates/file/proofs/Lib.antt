@@ -1,2 +1,4 @@
 pub mod Fan
 pub mod Stages
+pub mod Saying
+pub mod Results

@@ -1,6 +1,7 @@
 -- The stages of opening: how a stage answers, and what one that refuses nothing leaves.
 use Prim.Native.Nat.{ℕ, _+_, _<_, _≤_}
 use mathlib.Core.List.{List}
+use mathlib.Core.Bool.{true}
 use mathlib.Core.Path.{_≡_, refl, ap, _∙_, sym}
 use native.Mathlib.Omega.{arith}
 use native.Mathlib.Nat.{le-refl, mul-one}
@@ -9,6 +10,7 @@ use lib.ListN.{length}
 use denote.Ref.{RefT}
 use borrow.Author.Tests.{lt-ltb, le-ltb, ltb-false}
 use Rattle.types.specs.Refusals.{refusal}
+use Rattle.types.specs.Width.{known}
 use Rattle.types.specs.declared.refusal.Refusal.{Refusal}
 use Rattle.words.specs.First.{_if_else_, refuse}
 use Rattle.words.specs.Part.{RecordsOf}
@@ -25,12 +27,12 @@ pub stage-yes : (n m p q : ℕ) (rest r : Opening) → m ≡ n → q ≡ p → 0
 unfolding notOpen
 stage-yes n m p q rest r d e h g = g ∙ rw (← d, ← e) (refuse-some m (notOpen q) rest h)
 
-pub stage-no : (n m p : ℕ) (rest r : Opening) → m ≡ n → m ≤ 0 → r ≡ rest → r ≡ refuse n (notOpen p) rest
-stage-no n m p rest r d h g = g ∙ sym (refuse-none _ _ (omega arith))
+pub stage-no : {n m : ℕ} (p : ℕ) {rest r : Opening} → m ≡ n → m ≤ 0 → r ≡ rest → r ≡ refuse n (notOpen p) rest
+stage-no p d h g = g ∙ sym (refuse-none _ _ (omega arith))
 
 -- a stage of which it is known that it answers 0
-pub stage-none : (n p : ℕ) (rest r : Opening) → 0 ≡ n → r ≡ rest → r ≡ refuse n (notOpen p) rest
-stage-none n p rest r d g = stage-no n 0 p rest r d (le-refl 0) g
+pub stage-none : {n : ℕ} (p : ℕ) {rest r : Opening} → 0 ≡ n → r ≡ rest → r ≡ refuse n (notOpen p) rest
+stage-none p d g = stage-no p d (le-refl 0) g
 
 -- a refusal handed back whole
 pub stage-as : (n p : ℕ) {i : Refusal} (rest : Opening) → i ≡ refusal n p → 0 < i .number → Refused i ≡ refuse n (notOpen p) rest
@@ -61,9 +63,9 @@ headed l e =
     let p2 = pass 2 _ _ (lit< tt) (p1 .1) in
     record { most = ltb-false _ _ (p1 .0); least = ltb-false _ _ (p2 .0) }
 
-pub width-wide : (l : List ℕ) → (0 < width l) × (width l < 1000)
+pub width-known : (l : List ℕ) → known (width l) ≡ true
 unfolding width
-width-wide l = omega arith
+width-known l = refl
 
 -- the part that was cut out of a file for a chunk that lies in it is the chunk's own bytes
 pub cut-part : (s r : RefT (List ℕ)) (c : Chunk) {a n : ℕ} → a ≡ startOf c → n ≡ sizeOf c → startOf c + sizeOf c ≤ length (s .now)

@@ -22,6 +22,8 @@ use types::refusal::FAN_FALLS;
 use words::big::be32;
 use words::part::part;
 ghost use mathlib.Core.Path.{_≡_};
+ghost use Rattle.file.specs.Said.{openingSaid};
+ghost use Rattle.types.specs.Said.{Answers};
 ghost use mathlib.Core.Bool.{true};
 ghost use Prim.Native.Nat.{_-_, _<_};
 ghost use lib.ListN.{length};
@@ -148,7 +150,7 @@ fn open_by(s: &[u8], tried: bool) -> Opening
 
 // Opens one file.
 pub fn open(s: &[u8]) -> Opening
-    ensures { λ r. ⌜ r ≡ opening (now (s .entry)) ⌝ }
+    ensures { λ r. ⌜ Answers openingSaid r (opening (now (s .entry))) ⌝ }
 {
     open_by(s, true)
 }

@@ -1,14 +1,14 @@
 -- A record that fits its bytes: what it gives, and that an opened file's does.
-use Prim.Native.Nat.{ℕ, suc, _+_, _-_, _*_, _^_, _≤_, _<_}
+use Prim.Native.Nat.{ℕ, suc, _+_, _*_, _≤_, _<_}
 use mathlib.Core.List.{List}
 use mathlib.Core.Bool.{Bool, true, false, not}
 use mathlib.Core.Path.{_≡_, refl, sym, ap, _∙_}
 use native.Mathlib.Omega.{arith}
-use native.Mathlib.Nat.{mul-le-mul-right, mul-le-mul, le-of-lt, mul-one, suc-mul}
+use native.Mathlib.Nat.{mul-le-mul-right, mul-one, suc-mul}
 use lib.Dec.{ltb, leb, lit<}
 use lib.ListN.{length}
 use denote.Ref.{RefT}
-use borrow.Author.Tests.{le-leb, lt-leb, lt-ltb, le-ltb, ltb-true, leb-true, leb-false, ltb-false, eqb-true, eq-eqb, ne-eqb, not-false}
+use borrow.Author.Tests.{le-leb, lt-leb, lt-ltb, le-ltb, ltb-true, leb-true, leb-false, ltb-false, eq-eqb, ne-eqb, not-false}
 use Rattle.words.specs.First.{_if_else_}
 use Rattle.words.specs.Part.{fits, PartOf, RecordsOf}
 use Rattle.words.proofs.Parts.{part-part, part-length, records-in}
@@ -16,6 +16,7 @@ use Rattle.words.proofs.Rows.{hit, miss, pass}
 use Rattle.chunk.specs.Index.{startOf, sizeOf}
 use Rattle.types.specs.Width.{known}
 use Rattle.fit.specs.Fits.{fitRule, askRule, AskedPart, Fitted}
+use Rattle.types.proofs.Widths.{width-bounds}
 use Rattle.fit.specs.Facts.{Opened}
 use Rattle.file.specs.declared.File.{File}
 
@@ -28,6 +29,10 @@ row-fits n at count w rest e =
     let p = pass 40 _ rest (lit< tt) e in
     (leb-true (at + count * w) n (not-false _ (p .0)), p .1)
 
+pub fit-known : (l : List ℕ) (f : File) → fitRule l f ≡ 0 → known (f .width) ≡ true
+unfolding fitRule
+fit-known l f e = not-false _ (pass 40 _ _ (lit< tt) e .0)
+
 pub fitted : (l : List ℕ) (f : File) → fitRule l f ≡ 0 → Fitted l f
 unfolding fitRule
 fitted l f e =
@@ -37,12 +42,8 @@ fitted l f e =
     let p4 = row-fits (length l) (f .cdat) (f .commits) (f .width + 16) _ (p3 .1) in
     let p5 = row-fits (length l) (startOf (f .edge)) (sizeOf (f .edge)) 1 _ (p4 .1) in
     let p6 = row-fits (length l) (f .base) (f .bases) (f .width) _ (p5 .1) in
-    let w : f .width ≡ 20 = eqb-true _ _ (not-false _ (p1 .0)) in
+    let w = width-bounds (f .width) (fit-known l f e) in
     record { wide = omega arith; narrow = omega arith; fan = p2 .0; ids = p3 .0; rows = p4 .0; edge = rw mul-one at (p5 .0); base = p6 .0 }
-
-width-is : (l : List ℕ) (f : File) → fitRule l f ≡ 0 → f .width ≡ 20
-unfolding fitRule
-width-is l f e = eqb-true _ _ (not-false _ (pass 40 _ _ (lit< tt) e .0))
 
 pub opened-fits : {l : List ℕ} {f : File} → Opened l f → fitRule l f ≡ 0
 unfolding fitRule
@@ -85,7 +86,7 @@ module _ (l : List ℕ) (f : File) (n i : ℕ) {m : ℕ} (e : m ≡ fitRule l f)
 -- what a question that is answered gives
 pub record Answered (l : List ℕ) (f : File) (n i : ℕ) : Type 0 where
   pub rule : askRule l f n i ≡ 0
-  pub width : f .width ≡ 20
+  pub known : known (f .width) ≡ true
   pub fits : Fitted l f
   pub below : i < n
 
@@ -93,7 +94,7 @@ pub answered : (l : List ℕ) (f : File) (n i : ℕ) {r : ℕ} → r ≡ askRule
 answered l f n i e h =
     let z : askRule l f n i ≡ 0 = omega arith in
     let k = asked l f n i z in
-    record { rule = z; width = width-is l f (k .0); fits = fitted l f (k .0); below = k .1 }
+    record { rule = z; known = fit-known l f (k .0); fits = fitted l f (k .0); below = k .1 }
 
 -- the part that a question hands back, where it meets no refusal and where it meets one
 module _ (s r : RefT (List ℕ)) (m at n : ℕ) where

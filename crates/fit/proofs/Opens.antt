@@ -18,23 +18,20 @@ use Rattle.chunk.specs.Index.{chunks, offAt, absent, startOf, sizeOf, indexRule
 use Rattle.chunk.specs.declared.Chunk.{Chunk}
 use Rattle.chunk.specs.declared.Chunk.the-variants.{At, Absent}
 use Rattle.chunk.proofs.Sound.{indexed, lies}
-use Rattle.file.specs.Table.{bases, width, header, indexOf, partOf, baseRules, chunkRules, countRules, falls, peak, peakBy, last, fileOf, notOpen, fanned, chunked, openingBy, opening}
+use Rattle.file.specs.Table.{bases, width, header, indexOf, partOf, baseRules, chunkRules, countRules, falls, peak, peakBy, last, fileOf}
+use Rattle.file.specs.Table.{notOpen, fanned, chunked, openingBy, opening}
 use Rattle.fit.specs.Facts.{Opened, Rises}
-use Rattle.types.specs.Width.{known}
+use Rattle.types.proofs.Widths.{width-bounds}
 use Rattle.file.specs.declared.File.{File}
 use Rattle.file.specs.declared.rules.Index.{Index}
 use Rattle.file.specs.declared.Opening.{Opening}
 use Rattle.file.specs.declared.Opening.the-variants.{Open, Refused}
-use Rattle.file.proofs.Stages.{Headed, headed, width-wide}
+use Rattle.file.proofs.Stages.{Headed, headed, width-known}
 
 -- a stage before an opened file refused nothing
 pub opens : (n p : ℕ) (rest : Opening) {f : File} → refuse n (notOpen p) rest ≡ Open f → (n ≡ 0) × (rest ≡ Open f)
 unfolding notOpen
 opens n p rest e = refuse-other n (notOpen p) rest (λ m q. let z : _≡_ {A = ℕ} 0 1 = cc in omega arith) e
-
-width-known : (l : List ℕ) → known (width l) ≡ true
-unfolding width
-width-known l = refl
 
 -- records that fill a chunk
 whole : (n w k : ℕ) → n % w ≡ 0 → n / w ≡ k → k * w ≡ n
@@ -125,8 +122,8 @@ opened t l {f} o =
       most = h .most;
       least = h .least;
       fitted = record {
-        wide = width-wide l .0;
-        narrow = width-wide l .1;
+        wide = omega (arith, width-bounds w (width-known l));
+        narrow = omega (arith, width-bounds w (width-known l));
         fan = omega (arith, s .oidf, lies 0x4f494446 i .inside);
         ids = omega (arith, whole _ w n (s .oidl) (c .0), lies 0x4f49444c i .inside);
         rows = omega (arith, whole _ (w + 16) n (s .cdat) (c .1), lies 0x43444154 i .inside);

@@ -4,6 +4,7 @@ use chunk::size;
 use chunk::start;
 use file::File;
 use types::refusal::POSITION;
+use types::width::known;
 use words::part::room;
 ghost use mathlib.Core.Path.{_≡_};
 ghost use Rattle.words.specs.Part.{fits};
@@ -25,7 +26,7 @@ pub fn fit(s: &[u8], f: File) -> u32
     let b = f.bases as usize;
     let w = f.width;
     let edge = f.edge;
-    if w != 20 {
+    if !known(w) {
         return POSITION;
     }
     if !room(s.len(), f.oidf, 256, 4) {

@@ -22,7 +22,6 @@ use Rattle.file.specs.declared.File.{File}
 use Rattle.file.specs.declared.Opening.the-variants.{Open}
 use Rattle.fit.proofs.Opens.{opens, opened as gives}
 use Rattle.steps.specs.declared.Phase.{Phase}
-use Rattle.steps.specs.declared.Phase.the-variants.{First, Second, Edge, Exhausted}
 use Rattle.parents.specs.declared.Answer.{Answer}
 use Rattle.parents.specs.declared.Answer.the-variants.{Parent, Refused, End}
 use Rattle.types.specs.declared.graph.Position.{Position}
@@ -32,7 +31,9 @@ use Rattle.walk.specs.declared.Walk.{Walk}
 use Rattle.walk.proofs.Following.{keeps}
 use Rattle.flat.specs.declared.Opened.{Opened as Handed}
 use Rattle.flat.specs.declared.Step.{Step}
-use Rattle.flat.specs.Images.{phaseKind, phaseEdge, phaseOf, flatStep, flatStepped, walkOf, flatWalked}
+use Rattle.steps.specs.Said.{phaseOf}
+use Rattle.steps.proofs.Saying.{phase-again}
+use Rattle.flat.specs.Images.{flatStep, flatStepped, walkOf, flatWalked}
 use Rattle.flat.specs.Records.{endOf, edgeOf, fileOf, presentIn, recordOf, flatOpened, Returns}
 
 -- ── a record ──
@@ -116,19 +117,12 @@ opened l b e = (e, λ f o. ap (λ (x : Handed). fileOf (x .«record»)) (e ∙ a
 
 -- ── a phase ──
 
-pub phase-back : (s : Phase) → phaseOf (phaseKind s) (phaseEdge s) ≡ s
-unfolding phaseOf _if_else_
-phase-back First = refl
-phase-back Second = refl
-phase-back (Edge k) = refl
-phase-back Exhausted = refl
-
 -- what a step hands out, passed back, is the phase after it
 pub step-back : (a : Answer) (s : Phase) → phaseOf (flatStep a s .phase) (flatStep a s .edge) ≡ s
 unfolding flatStep
-step-back (Parent p) s = phase-back s
-step-back (Refused r) s = phase-back s
-step-back End s = phase-back s
+step-back (Parent p) s = phase-again s
+step-back (Refused r) s = phase-again s
+step-back End s = phase-again s
 
 -- and so on a chain, where the walk keeps its commit
 pub walk-back : (z : ℕ) (c l : List ℕ) (w : Walk)

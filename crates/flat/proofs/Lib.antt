@@ -1,1 +1,2 @@
 pub mod Backs
+pub mod Results

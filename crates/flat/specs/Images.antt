@@ -2,8 +2,7 @@
 -- step's phase; where there is none these three are 0.
 use Prim.Native.Nat.{ℕ, _-_}
 use mathlib.Core.List.{List}
-use lib.Dec.{eqb}
-use Rattle.words.specs.First.{_if_else_}
+use lib.ListN.{length}
 use Rattle.name.specs.declared.Name.{Name as Named}
 use Rattle.access.specs.declared.Asking.{Asking}
 use Rattle.access.specs.declared.Asking.the-variants.{Fine, Refused as Met}
@@ -11,12 +10,9 @@ use Rattle.access.specs.declared.Found.{Found as SoughtIn}
 use Rattle.access.specs.declared.Found.the-variants.{At as AtIn, Absent as AbsentIn, Refused as NotSoughtIn}
 use Rattle.chunk.specs.declared.Indexed.{Indexed}
 use Rattle.chunk.specs.declared.Indexed.the-variants.{Entry as Listed, Past, Refused as NotListed}
-use Rattle.commit.specs.declared.ParentEdge.{ParentEdge}
-use Rattle.commit.specs.declared.ParentEdge.the-variants.{None, GraphPosition, ExtraEdgeIndex}
 use Rattle.commit.specs.declared.Asked.{Asked as Told}
 use Rattle.commit.specs.declared.Asked.the-variants.{Commit as Is, Refused as NoCommit}
 use Rattle.steps.specs.declared.Phase.{Phase}
-use Rattle.steps.specs.declared.Phase.the-variants.{First, Second, Edge, Exhausted}
 use Rattle.parents.specs.declared.Answer.{Answer}
 use Rattle.parents.specs.declared.Answer.the-variants.{Parent, Refused as NoParent, End}
 use Rattle.parents.specs.declared.Step.{Step as Stepped}
@@ -37,11 +33,12 @@ use Rattle.ask.specs.declared.lookup.Found.{Found as Sought}
 use Rattle.ask.specs.declared.lookup.Found.the-variants.{At, Absent, Refused as NotSought}
 use Rattle.walk.specs.declared.Walk.{Walk}
 use Rattle.walk.specs.declared.Step.{Step as Walked}
-use Rattle.audit.specs.declared.Length.{Length}
-use Rattle.audit.specs.declared.Length.the-variants.{Steps, Cyclic}
 use Rattle.audit.specs.declared.Verdict.{Verdict}
 use Rattle.audit.specs.declared.Verdict.the-variants.{Accepted, Refused as NotVerified}
 use Rattle.audit.specs.declared.Verification.{Verification as Verified}
+use Rattle.commit.specs.Said.{edgeKind, edgeWord}
+use Rattle.steps.specs.Said.{phaseKind, phaseEdge, phaseOf}
+use Rattle.audit.specs.Said.{cyclicOf, stepsOf}
 use Rattle.flat.specs.declared.Digest.{Digest}
 use Rattle.flat.specs.declared.Name.{Name}
 use Rattle.flat.specs.declared.Asked.{Asked}
@@ -114,17 +111,7 @@ flatFoundIn (AtIn p) = record { place = 0; number = 0; file = 0; found = 1; pos 
 flatFoundIn AbsentIn = record { place = 0; number = 0; file = 0; found = 0; pos = 0 }
 flatFoundIn (NotSoughtIn r) = record { place = r .place; number = r .number; file = r .file; found = 0; pos = 0 }
 
--- a parent word: its kind, and the position or the EDGE index
-abbrev pub edgeKind : ParentEdge → ℕ
-edgeKind None = 0
-edgeKind (GraphPosition p) = 1
-edgeKind (ExtraEdgeIndex k) = 2
-
-abbrev pub edgeWord : ParentEdge → ℕ
-edgeWord None = 0
-edgeWord (GraphPosition p) = p .0
-edgeWord (ExtraEdgeIndex k) = k
-
+-- a commit; a parent word is its kind, and the position or the EDGE index
 unfoldable pub flatCommit : Told → Commit
 flatCommit (Is c) =
     record {
@@ -152,27 +139,6 @@ flatCommit (NoCommit r) =
       second = 0;
       spare = 0;
     }
-
--- a phase: its number, and the EDGE number
-abbrev pub phaseKind : Phase → ℕ
-phaseKind First = 0
-phaseKind Second = 1
-phaseKind (Edge k) = 2
-phaseKind Exhausted = 3
-
-abbrev pub phaseEdge : Phase → ℕ
-phaseEdge First = 0
-phaseEdge Second = 0
-phaseEdge (Edge k) = k
-phaseEdge Exhausted = 0
-
--- and back: any other number is exhausted
-unfoldable pub phaseOf : ℕ → ℕ → Phase
-phaseOf n edge =
-    First if eqb n 0 else
-    Second if eqb n 1 else
-    Edge edge if eqb n 2 else
-    Exhausted
 
 -- a step's answer and the phase after it
 unfoldable pub flatStep : Answer → Phase → Step
@@ -218,14 +184,6 @@ abbrev pub flatTraversal : Traversed → Traversal
 flatTraversal t = flatJudged (t .verdict) (t .counts)
 
 -- a chain verified
-abbrev pub cyclicOf : Length → ℕ
-cyclicOf (Steps n) = 0
-cyclicOf Cyclic = 1
-
-abbrev pub stepsOf : Length → ℕ
-stepsOf (Steps n) = n
-stepsOf Cyclic = 0
-
 unfoldable pub flatVerdict : Verdict → List ℕ → Verification
 flatVerdict (Accepted s) counts =
     record {

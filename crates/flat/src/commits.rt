@@ -3,7 +3,8 @@ use super::Commit;
 use commit::Asked;
 use commit::ParentEdge;
 ghost use mathlib.Core.Path.{_≡_};
-ghost use Rattle.flat.specs.Images.{edgeKind, edgeWord, flatCommit};
+ghost use Rattle.commit.specs.Said.{edgeKind, edgeWord};
+ghost use Rattle.flat.specs.Images.{flatCommit};
 
 fn edge_kind(e: ParentEdge) -> u32
     ensures { λ r. ⌜ r ≡ edgeKind e ⌝ }

@@ -3,7 +3,8 @@ use super::Traversal;
 use super::Verification;
 use audit::Length;
 ghost use mathlib.Core.Path.{_≡_};
-ghost use Rattle.flat.specs.Images.{cyclicOf, stepsOf, flatTraversal, flatVerification};
+ghost use Rattle.audit.specs.Said.{cyclicOf, stepsOf};
+ghost use Rattle.flat.specs.Images.{flatTraversal, flatVerification};
 
 // One file verified.
 pub fn traversal_flat(t: traverse::Traversal) -> Traversal

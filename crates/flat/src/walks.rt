@@ -3,26 +3,12 @@ use super::Step;
 use super::Total;
 use parents::Answer;
 use steps::Phase;
+use steps::phase_of;
 use types::graph::Position;
 use walk::Walk;
 ghost use mathlib.Core.Path.{_≡_};
-ghost use Rattle.flat.specs.Images.{phaseOf, phaseKind, phaseEdge, flatStep, flatStepped, flatWalked, walkOf, flatTotal};
-
-// The phase of a number and an EDGE number; a number that is none of a phase counts as exhausted.
-pub fn phase_of(phase: u32, edge: usize) -> Phase
-    ensures { λ r. ⌜ r ≡ phaseOf phase edge ⌝ }
-{
-    if phase == 0 {
-        return Phase::First;
-    }
-    if phase == 1 {
-        return Phase::Second;
-    }
-    if phase == 2 {
-        return Phase::Edge(edge);
-    }
-    Phase::Exhausted
-}
+ghost use Rattle.steps.specs.Said.{phaseKind, phaseEdge};
+ghost use Rattle.flat.specs.Images.{flatStep, flatStepped, flatWalked, walkOf, flatTotal};
 
 fn phase_kind(p: Phase) -> u32
     ensures { λ r. ⌜ r ≡ phaseKind p ⌝ }

@@ -1,22 +1,25 @@
--- A pass over a chain's files: where each lies, and how the pass goes on.
-use Prim.Native.Nat.{ℕ, suc, _+_, _-_, _*_, _≤_, _<_}
+-- A pass over a chain's files: where each lies, and how the pass goes on. What stands when it is at file k is `Along`: `at` is where the file starts,
+-- `sum` how many commits come before it, and the files from k on are refused as all are. A turn passes one file. That the commits are few is a law of
+-- sums, `few-commits`, which needs no pass.
+use Prim.Native.Nat.{ℕ, zero, suc, _+_, _-_, _*_, _≤_, _<_}
 use mathlib.Core.List.{List}
 use mathlib.Core.Bool.{Bool, true, false}
 use mathlib.Core.Path.{_≡_, refl, sym, ap, subst, _∙_}
 use mathlib.Core.Logic.{⊎-elim}
 use native.Mathlib.Omega.{arith}
-use native.Mathlib.Nat.{sub-zero}
-use lib.ListN.{length}
+use native.Mathlib.Nat.{sub-zero, min-le-left, eq-or-lt-of-le}
+use lib.ListN.{length, length-take}
 use denote.Ref.{RefT}
-use borrow.Author.Tests.{lt-ltb, le-ltb, le-leb, lt-leb, eqb-true}
+use borrow.Author.Tests.{lt-ltb, le-ltb, le-leb, lt-leb}
 use Rattle.words.specs.First.{_if_else_}
 use Rattle.types.specs.Refusals.{refusal}
 use Rattle.types.specs.declared.refusal.Refusal.{Refusal}
 use Rattle.words.specs.Part.{RecordsOf}
 use Rattle.words.specs.Sums.{before}
-use Rattle.words.proofs.Adds.{before-next, before-lt}
+use Rattle.words.proofs.Adds.{before-next, before-le, before-lt}
 use Rattle.words.proofs.Numbers.{le-or-lt}
 use Rattle.words.proofs.Parts.{length-part, run-in}
+use Rattle.types.proofs.Widths.{rows-least}
 use Rattle.list.specs.List.{lengthAt}
 use Rattle.file.specs.Table.{opening}
 use Rattle.fit.specs.Facts.{Opened}
@@ -24,10 +27,11 @@ use Rattle.file.specs.declared.File.{File}
 use Rattle.file.specs.declared.Opening.{Opening}
 use Rattle.file.specs.declared.Opening.the-variants.{Open, Refused}
 use Rattle.fit.proofs.Opens.{opened, refused-named}
-use Rattle.graph.specs.Chain.{placed, commitsOf, startAt, partAt, openAt, countAt, openOr, openFrom, Listed}
+use Rattle.graph.specs.Chain.{placed, commitsOf, startAt, partAt, openAt, countAt, firstAt, openOr, openFrom, Listed}
 use Rattle.graph.specs.Passes.{keptOf, Holds, Kept, Surveyed}
 use Rattle.graph.specs.declared.locate.Spot.{Spot}
 use Rattle.graph.specs.declared.survey.Mark.{Mark}
+use Rattle.graph.proofs.Views.{numbers}
 
 -- the ways through what is kept
 module _ (old : Mark) (g sum next k at n : ℕ) (f : File) where
@@ -46,19 +50,35 @@ module _ (old : Mark) (g sum next k at n : ℕ) (f : File) where
   kept-here h e = rw (le-ltb g sum h, lt-leb next g e)
 
 module _ (z : ℕ) (c l : List ℕ) where
-  -- a file's commits, and how many they can be
-  count-open : (k : ℕ) {f : File} → openAt z c l k ≡ Open f → countAt z c l k ≡ f .commits
+  -- what an open file gives, and its commits
+  pub file-opened : (k : ℕ) {f : File} → openAt z c l k ≡ Open f → Opened (partAt z c l k) f
+  unfolding openAt
+  file-opened k e = opened true (partAt z c l k) e
+
+  pub count-open : (k : ℕ) {f : File} → openAt z c l k ≡ Open f → countAt z c l k ≡ f .commits
   unfolding countAt commitsOf
   count-open k e = rw e
 
-  few-commits : (k : ℕ) {f : File} → openAt z c l k ≡ Open f → f .commits * 36 ≤ length (partAt z c l k)
-  unfolding openAt
-  few-commits k {f} e =
-      let o : Opened (partAt z c l k) f = opened true (partAt z c l k) e in
-      let w : f .width ≡ 20 = eqb-true (f .width) 20 (o .known) in
-      let r : f .cdat + f .commits * (f .width + 16) ≤ length (partAt z c l k) = o .fitted .rows in
-      let s : f .cdat + f .commits * (20 + 16) ≤ length (partAt z c l k) = rw w at r in
-      omega arith
+  part-most : (k : ℕ) → length (partAt z c l k) ≤ lengthAt z l k
+  unfolding partAt
+  part-most k = rw length-take (min-le-left _ _)
+
+  -- a commit takes 36 bytes at least: those of file k, and those before it
+  file-commits : (k : ℕ) → countAt z c l k * 36 ≤ lengthAt z l k
+  unfolding countAt commitsOf
+  file-commits k = go (openAt z c l k) refl
+    where
+      go : (o : Opening) → openAt z c l k ≡ o → commitsOf o * 36 ≤ lengthAt z l k
+      go (Open f) e =
+          let o : Opened (partAt z c l k) f = file-opened k e in
+          let r : f .commits * (f .width + 16) ≤ lengthAt z l k = omega (arith, o .fitted .rows, part-most k) in
+          rows-least (f .width) (o .known) (f .commits) _ r
+      go (Refused q) e = omega arith
+
+  pub few-commits : (k : ℕ) → firstAt z c l k * 36 ≤ startAt z c l k
+  unfolding before
+  few-commits zero = omega arith
+  few-commits (suc k) = omega (arith, few-commits k, file-commits k)
 
   -- one file more is open; a file is not
   from-open : (k left : ℕ) {f : File} → openAt z c l k ≡ Open f → openFrom z c l k (suc left) ≡ openFrom z c l (k + 1) left
@@ -69,12 +89,27 @@ module _ (z : ℕ) (c l : List ℕ) where
   unfolding openFrom openOr
   from-refused k left e = rw e
 
+  -- all files from k on open: so does file k, and so does each
+  open-here : (k left : ℕ) → openFrom z c l k (suc left) .number ≡ 0 → (f : File) × (openAt z c l k ≡ Open f)
+  unfolding openAt
+  open-here k left y = go (openAt z c l k) refl
+    where
+      go : (o : Opening) → openAt z c l k ≡ o → (f : File) × (openAt z c l k ≡ Open f)
+      go (Open f) e = (f, e)
+      go (Refused q) e = absurd (omega (arith, refused-named true (partAt z c l k) e, numbers (from-refused k left e)))
+
+  pub each-open : (left k : ℕ) → openFrom z c l k left .number ≡ 0 → (j : ℕ) → k ≤ j → j < k + left → (f : File) × (openAt z c l j ≡ Open f)
+  each-open zero k y j a b = absurd (omega arith)
+  each-open (suc left) k y j a b =
+      let (f, e) = open-here k left y in
+      ⊎-elim (λ (q : k ≡ j). (f, ap (openAt z c l) (sym q) ∙ e))
+      (λ (q : k < j). each-open left (k + 1) (rw (from-open k left e) at y) j (omega arith) (omega arith)) (eq-or-lt-of-le a)
+
   -- what stands when a pass is at file k, which starts at `at`, with sum commits before it
   pub record Along (n k at sum : ℕ) : Type 0 where
     pub few : k ≤ n
     pub place : at ≡ startAt z c l k
     pub total : sum ≡ before (countAt z c l) k
-    pub small : sum * 36 ≤ at
     pub rest : openFrom z c l 0 n ≡ openFrom z c l k (n - k)
 
   pub record Passing (n g k at sum : ℕ) (r : Mark) : Type 0 where
@@ -94,9 +129,13 @@ module _ (z : ℕ) (c l : List ℕ) where
     unfolding partAt
     part-long k h = length-part (startAt z c l k) (lengthAt z l k) c (file-room k h)
 
+    -- so in 1 GiB they are few
+    pub few-positions : (k : ℕ) → k ≤ n → firstAt z c l k * 36 ≤ 1073741824
+    few-positions k h = omega (arith, few-commits k, before-le (lengthAt z l) k n h, d .files, d .most)
+
     pub along-begins : Along n 0 0 0
     unfolding before
-    along-begins = record { few = omega arith; place = refl; total = refl; small = omega arith; rest = rw sub-zero }
+    along-begins = record { few = omega arith; place = refl; total = refl; rest = rw sub-zero }
 
     pub pass-begins : (g : ℕ) (r : Mark) → r .found ≡ false → Passing n g 0 0 0 r
     unfolding before
@@ -134,17 +173,14 @@ module _ (z : ℕ) (c l : List ℕ) where
                 few = omega arith;
                 place = omega (arith, before-next (lengthAt z l) k, part-long k h, p .place);
                 total = sym counted;
-                small = omega (arith, few-commits k e, p .small);
                 rest = p .rest ∙ ap (openFrom z c l k) ahead ∙ from-open k (n - (k + 1)) e;
               }
 
           -- the sum fits, and so does the next place
           pub along-room : (sum + f .commits ≤ 1073741824) × (at + length (partAt z c l k) ≤ 1073741824)
           along-room =
-              let a = few-commits k e in
-              let b = part-long k h in
               let y = file-room k h in
-              (omega (arith, p .small, p .place, d .most), omega (arith, p .place, d .most))
+              (omega (arith, few-positions (k + 1) (omega arith), counted), omega (arith, part-long k h, p .place, d .most))
 
     more : {g k : ℕ} {r : Spot} → Holds z c l g k r → Holds z c l g (k + 1) r
     more h =

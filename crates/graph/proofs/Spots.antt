@@ -1,22 +1,23 @@
 -- Where a position stands: the ways through the question, what its answer comes to, and the file that is cut by it.
 use Prim.Native.Nat.{ℕ, _≤_, _<_}
 use mathlib.Core.List.{List}
-use mathlib.Core.Bool.{Bool, true, false}
+use mathlib.Core.Bool.{true, false}
 use mathlib.Core.Path.{_≡_, refl, sym, ap, subst, _∙_}
+use mathlib.Core.Logic.{⊎-elim}
 use native.Mathlib.Omega.{arith}
-use lib.Dec.{ltb, leb}
+use lib.Dec.{leb}
 use denote.Ref.{RefT}
-use borrow.Author.Tests.{lt-ltb, le-ltb, le-leb, lt-leb, ltb-true, ltb-false}
+use borrow.Author.Tests.{lt-ltb, le-ltb, le-leb, lt-leb}
 use Rattle.words.specs.First.{_if_else_}
 use Rattle.types.specs.Refusals.{refusal}
 use Rattle.types.specs.declared.refusal.Refusal.{Refusal}
 use Rattle.words.specs.Part.{RecordsOf}
 use Rattle.words.proofs.Adds.{before-lt}
+use Rattle.words.proofs.Numbers.{le-or-lt}
 use Rattle.words.proofs.Parts.{run-in}
 use Rattle.list.specs.List.{recordsOf, lengthAt}
 use Rattle.file.specs.declared.File.{File}
-use Rattle.file.specs.declared.Opening.the-variants.{Open}
-use Rattle.graph.specs.Chain.{startAt, partAt, openAt, countAt, commitsIn, fileOf, posOf, opened, asked}
+use Rattle.graph.specs.Chain.{startAt, partAt, countAt, commitsIn, fileOf, posOf, opened, asked}
 use Rattle.graph.specs.Passes.{Holds, Viewed}
 use Rattle.graph.specs.Spots.{spotIn, located}
 use Rattle.graph.specs.Theorems.{Spotted, FileOf}
@@ -71,61 +72,43 @@ module _ (z : ℕ) (c l : List ℕ) (g : ℕ) where
   spot-of : ℕ → ℕ → File → Spot
   spot-of k i f = record { file = k; start = startAt z c l k; size = lengthAt z l k; pos = record { 0 = i }; inner = f }
 
-  fine-spot : asked z c l g .number ≡ 0 → {f : File} → openAt z c l (fileOf z c l g) ≡ Open f → posOf z c l g < f .commits
-      → Spotted z c l g (spot-of (fileOf z c l g) (posOf z c l g) f)
-  unfolding spot-of
-  fine-spot a o h =
+  -- a question that is not refused has its spot
+  fine-spot : asked z c l g .number ≡ 0 → (r : Spot) × (located z c l g ≡ At r) × Spotted z c l g r
+  unfolding located _if_else_ spotIn spot-of
+  fine-spot a =
       let b : g < commitsIn z c l = asked-below z c l g a in
-      record {
-        fine = a;
-        file = refl;
-        pos = refl;
-        sum = stands z c l .sum g b;
-        below = stands z c l .file g b;
-        start = refl;
-        size = refl;
-        room = file-room z c l (opened-listed z c l (asked-opened z c l g a)) (fileOf z c l g) (stands z c l .file g b);
-        opens = o;
-        high = h;
-      }
+      let (f, o, h) = stands z c l .opens g b in (
+        spot-of (fileOf z c l g) (posOf z c l g) f,
+        rw (le-ltb 0 (asked z c l g .number) (omega arith), o),
+        record {
+          fine = a;
+          file = refl;
+          pos = refl;
+          sum = stands z c l .sum g b;
+          below = stands z c l .file g b;
+          start = refl;
+          size = refl;
+          room = file-room z c l (opened-listed z c l (asked-opened z c l g a)) (fileOf z c l g) (stands z c l .file g b);
+          opens = o;
+          high = h;
+        },
+      )
 
   -- an answered spot is the position's, and a refusal is the question's
   pub spotted : {r : Spot} → located z c l g ≡ At r → Spotted z c l g r
-  unfolding located _if_else_ spotIn spot-of
-  spotted {r} = go _ refl
-    where
-      go : (t : Bool) → ltb 0 (asked z c l g .number) ≡ t
-          → (Nowhere (asked z c l g) if t else
-          spotIn (fileOf z c l g) (startAt z c l (fileOf z c l g)) (lengthAt z l (fileOf z c l g)) (posOf z c l g)
-          (openAt z c l (fileOf z c l g))) ≡ At r
-          → Spotted z c l g r
-      go true e d = let y : _≡_ {A = ℕ} 0 1 = cc in absurd (omega arith)
-      go false e d =
-          let a : asked z c l g .number ≡ 0 = omega (arith, ltb-false 0 (asked z c l g .number) e) in
-          let o = stands z c l .opens g (asked-below z c l g a) in
-          let x : At (spot-of (fileOf z c l g) (posOf z c l g) (o .0)) ≡ At r = rw (o .1) at d in
-          let y : spot-of (fileOf z c l g) (posOf z c l g) (o .0) ≡ r = cc in
-          subst (Spotted z c l g) y (fine-spot a (o .1) (o .2))
+  spotted {r} e =
+      ⊎-elim (λ (h : asked z c l g .number ≤ 0).
+      let (s, d, k) = fine-spot (omega arith) in let y : s ≡ r = cc in subst (Spotted z c l g) y k)
+      (λ (h : 0 < asked z c l g .number). let d = nowhere refl h in let y : _≡_ {A = ℕ} 0 1 = cc in absurd (omega arith))
+      (le-or-lt (asked z c l g .number) 0)
 
   pub unspotted : {q : Refusal} → located z c l g ≡ Nowhere q → (q ≡ asked z c l g) × (0 < q .number)
-  unfolding located _if_else_ spotIn
-  unspotted {q} = go _ refl
-    where
-      go : (t : Bool) → ltb 0 (asked z c l g .number) ≡ t
-          → (Nowhere (asked z c l g) if t else
-          spotIn (fileOf z c l g) (startAt z c l (fileOf z c l g)) (lengthAt z l (fileOf z c l g)) (posOf z c l g)
-          (openAt z c l (fileOf z c l g))) ≡ Nowhere q
-          → (q ≡ asked z c l g) × (0 < q .number)
-      go true e d =
-          let y : q ≡ asked z c l g = cc in
-          (y, omega (arith, numbers y, ltb-true 0 (asked z c l g .number) e))
-      go false e d =
-          let a : asked z c l g .number ≡ 0 = omega (arith, ltb-false 0 (asked z c l g .number) e) in
-          let o = stands z c l .opens g (asked-below z c l g a) in
-          let x : spotIn (fileOf z c l g) (startAt z c l (fileOf z c l g)) (lengthAt z l (fileOf z c l g)) (posOf z c l g) (Open (o .0)) ≡ Nowhere q =
-          rw (o .1) at d in
-          let y : _≡_ {A = ℕ} 0 1 = cc in
-          absurd (omega arith)
+  unspotted {q} e =
+      ⊎-elim (λ (h : asked z c l g .number ≤ 0).
+      let (s, d, k) = fine-spot (omega arith) in let y : _≡_ {A = ℕ} 0 1 = cc in absurd (omega arith))
+      (λ (h : 0 < asked z c l g .number).
+      let d = nowhere refl h in let y : q ≡ asked z c l g = cc in (y, omega (arith, numbers y)))
+      (le-or-lt (asked z c l g .number) 0)
 
 -- what is cut from the chain by a spot is its file
 pub file-cut : {z : ℕ} (c : RefT (List ℕ)) {l : List ℕ} {g : ℕ} {r : Spot} → Spotted z (c .now) l g r → {s : RefT (List ℕ)}

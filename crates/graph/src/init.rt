@@ -4,7 +4,8 @@ use super::survey::nowhere;
 use super::survey::pass;
 use list::check;
 use types::refusal::Refusal;
-ghost use mathlib.Core.Path.{_≡_};
+ghost use Rattle.graph.specs.Said.{openingSaid};
+ghost use Rattle.types.specs.Said.{Answers};
 ghost use Rattle.graph.specs.Chain.{openingOf};
 ghost use Rattle.graph.specs.Passes.{Viewed};
 
@@ -33,7 +34,7 @@ pub(crate) fn view(chain: &[u8], list: &[u8], g: u32) -> Survey
 
 // Opens a chain.
 pub fn open(chain: &[u8], list: &[u8]) -> Opening
-    ensures { λ r. ⌜ r ≡ openingOf 32 (now (chain .entry)) (now (list .entry)) ⌝ }
+    ensures { λ r. ⌜ Answers openingSaid r (openingOf 32 (now (chain .entry)) (now (list .entry))) ⌝ }
 {
     let v = view(chain, list, 0);
     let q = v.refusal;

@@ -6,6 +6,8 @@ use types::refusal;
 use types::refusal::POSITION;
 use types::refusal::Refusal;
 ghost use mathlib.Core.Path.{_≡_};
+ghost use Rattle.graph.specs.Said.{locatedSaid};
+ghost use Rattle.types.specs.Said.{Answers};
 ghost use Rattle.graph.specs.Chain.{placed};
 ghost use Rattle.graph.specs.Spots.{located};
 
@@ -36,7 +38,7 @@ pub fn of_file(k: u32, r: Refusal) -> Refusal
 
 // Where a position stands.
 pub fn locate(chain: &[u8], list: &[u8], pos: Position) -> Located
-    ensures { λ r. ⌜ r ≡ located 32 (now (chain .entry)) (now (list .entry)) (pos .0) ⌝ }
+    ensures { λ r. ⌜ Answers locatedSaid r (located 32 (now (chain .entry)) (now (list .entry)) (pos .0)) ⌝ }
 {
     let v = view(chain, list, pos.0);
     let q = v.refusal;

@@ -4,7 +4,7 @@ use Prim.Native.Nat.{ℕ, zero, suc, _+_, _-_, _*_, _/_, _%_, _≤_, _<_}
 use mathlib.Core.List.{List, _++_, append-assoc, append-nil}
 use native.Mathlib.Nat.{add-zero, add-suc, le-of-eq}
 use native.Mathlib.Omega.{arith}
-use lib.ListN.{length, take, drop, replicate, length-append, length-drop, take-append-drop}
+use lib.ListN.{length, take, drop, length-append, length-drop, take-append-drop}
 use lib.Seq.{take-append-le, drop-append-le, drop-append-add, take-all, length-take-le}
 use Rattle.block.specs.Message.{block, after, afterAll}
 use Rattle.hasher.specs.Feed.{rest, padded}
@@ -23,19 +23,17 @@ block-high : (p r : List ℕ) (q j : ℕ) → length p ≡ 64 * q → block (p +
 unfolding block
 block-high p r q j e =
     let a : 64 * (q + j) ≡ length p + 64 * j = omega arith in
-    ap (λ (n : ℕ). take 64 (drop n (p ++ r))) a ∙ ap (take 64) (drop-append-add p r (64 * j))
+    rw (a, drop-append-add)
 
 pub rest-joins : (p r : List ℕ) (q : ℕ) → length p ≡ 64 * q → rest (p ++ r) ≡ rest r
 unfolding rest
 rest-joins p r q e =
     let a : 64 * (length (p ++ r) / 64) ≡ length p + 64 * (length r / 64) = simp length-append (omega arith) in
-    ap (λ (n : ℕ). drop n (p ++ r)) a ∙ drop-append-add p r _
+    rw a (drop-append-add p r _)
 
 pub small-rest : (r : List ℕ) → length r < 64 → rest r ≡ r
 unfolding rest
-small-rest r h =
-    let a : 64 * (length r / 64) ≡ 0 = omega arith in
-    ap (λ (n : ℕ). drop n r) a
+small-rest r h = let a : 64 * (length r / 64) ≡ 0 = omega arith in rw a
 
 pub length-rest : (d : List ℕ) → length (rest d) ≡ length d % 64
 unfolding rest
@@ -43,9 +41,7 @@ length-rest d = simp length-drop (omega arith)
 
 pub padded-full : (d : List ℕ) → length d ≡ 64 → padded d ≡ d
 unfolding padded
-padded-full d e =
-    let a : 64 - length d ≡ 0 = omega arith in
-    ap (λ (n : ℕ). d ++ replicate n 0) a ∙ append-nil d
+padded-full d e = let a : 64 - length d ≡ 0 = omega arith in rw a (append-nil d)
 
 -- d is its whole blocks and the rest
 module _ (d : List ℕ) where
@@ -85,29 +81,25 @@ module _ (step : List ℕ → List ℕ → List ℕ) where
 
   after-high : (w p r : List ℕ) (q : ℕ) → length p ≡ 64 * q → (j : ℕ) → after step w (p ++ r) (q + j) ≡ after step (after step w p q) r j
   unfolding after
-  after-high w p r q e zero = ap (after step w (p ++ r)) (add-zero q) ∙ after-low w p r q (omega arith)
+  after-high w p r q e zero = rw add-zero (after-low w p r q (omega arith))
   after-high w p r q e (suc j) =
-      ap (after step w (p ++ r)) (add-suc q j) ∙ ap₂ step (after-high w p r q e j) (block-high p r q j e)
+      rw add-suc (ap₂ step (after-high w p r q e j) (block-high p r q j e))
 
   -- q whole blocks, then r
   joins : (w p r : List ℕ) (q : ℕ) → length p ≡ 64 * q → afterAll step w (p ++ r) ≡ afterAll step (after step w p q) r
   unfolding afterAll
   joins w p r q e =
       let a : length (p ++ r) / 64 ≡ q + length r / 64 = simp length-append (omega arith) in
-      ap (after step w (p ++ r)) a ∙ after-high w p r q e (length r / 64)
+      rw a (after-high w p r q e (length r / 64))
 
   -- less than a block, and exactly one
   pub small : (w r : List ℕ) → length r < 64 → afterAll step w r ≡ w
   unfolding afterAll after
-  small w r h =
-      let a : length r / 64 ≡ 0 = omega arith in
-      ap (after step w r) a
+  small w r h = let a : length r / 64 ≡ 0 = omega arith in rw a
 
   one : (w p : List ℕ) → length p ≡ 64 → afterAll step w p ≡ after step w p 1
   unfolding afterAll
-  one w p e =
-      let a : length p / 64 ≡ 1 = omega arith in
-      ap (after step w p) a
+  one w p e = let a : length p / 64 ≡ 1 = omega arith in rw a
 
   -- d and then b: b goes on from the words after d and the rest of d
   after-whole : (w d : List ℕ) → afterAll step w d ≡ after step w (whole d) (length d / 64)
@@ -116,12 +108,10 @@ module _ (step : List ℕ → List ℕ → List ℕ) where
 
   pub goes-on : (w d b : List ℕ) → afterAll step (afterAll step w d) (rest d ++ b) ≡ afterAll step w (d ++ b)
   goes-on w d b =
-      ap (λ (v : List ℕ). afterAll step v (rest d ++ b)) (after-whole w d)
-      ∙ sym (ap (afterAll step w) (split-more d b) ∙ joins w (whole d) (rest d ++ b) _ (length-whole d))
+      rw (after-whole w d, split-more d b) (sym (joins w (whole d) (rest d ++ b) _ (length-whole d)))
 
   pub fills-up : (o s : List ℕ) (r : ℕ) → length o + r ≡ 64 → r ≤ length s → (w : List ℕ)
       → afterAll step (afterAll step w (padded (o ++ take r s))) (drop r s) ≡ afterAll step w (o ++ s)
   fills-up o s r e h w =
-      ap (λ (b : List ℕ). afterAll step (afterAll step w b) (drop r s)) (padded-full _ (full o s r e h))
-      ∙ ap (λ (v : List ℕ). afterAll step v (drop r s)) (one w (o ++ take r s) (full o s r e h))
-      ∙ sym (ap (afterAll step w) (cut o s r e h) ∙ joins w (o ++ take r s) (drop r s) 1 (full o s r e h))
+      let f = full o s r e h in
+      rw (padded-full _ f, one w (o ++ take r s) f, cut o s r e h) (sym (joins w (o ++ take r s) (drop r s) 1 f))

@@ -12,7 +12,6 @@ use Rattle.words.specs.Big.{bytesOf}
 use Rattle.words.specs.First.{first}
 use Rattle.words.proofs.Numbers.{bytes-same}
 use Rattle.words.proofs.Searches.{first-is}
-use Rattle.block.specs.Message.{afterAll}
 use Rattle.hasher.specs.Message.{fills, padding, bytes}
 use Rattle.hasher.specs.Feed.{rest, padded, opened, nextBlock, nextWords, nextCount}
 use Rattle.hasher.proofs.Blocks.{goes-on, rest-goes-on, length-rest}
@@ -39,18 +38,12 @@ module _ (b : List ℕ) (n : ℕ) (e : length b ≡ 64) where
   module _ (a c : List ℕ) where
     pub block-twice : nextBlock (nextBlock b n a) (nextCount n a) c ≡ nextBlock b n (a ++ c)
     unfolding nextBlock
-    block-twice =
-        ap (λ (l : List ℕ). padded (rest (l ++ c))) (opened-next a)
-        ∙ ap padded (rest-goes-on (opened b n ++ a) c)
-        ∙ ap (λ (l : List ℕ). padded (rest l)) (append-assoc (opened b n) a c)
+    block-twice = rw (opened-next a, rest-goes-on, append-assoc)
 
     pub words-twice : (step : List ℕ → List ℕ → List ℕ) (w : List ℕ)
         → nextWords step (nextWords step w b n a) (nextBlock b n a) (nextCount n a) c ≡ nextWords step w b n (a ++ c)
     unfolding nextWords
-    words-twice step w =
-        ap (λ (l : List ℕ). afterAll step (afterAll step w (opened b n ++ a)) (l ++ c)) (opened-next a)
-        ∙ goes-on step w (opened b n ++ a) c
-        ∙ ap (afterAll step w) (append-assoc (opened b n) a c)
+    words-twice step w = rw (opened-next a, goes-on, append-assoc)
 
     pub count-twice : nextCount (nextCount n a) c ≡ nextCount n (a ++ c)
     unfolding nextCount
@@ -107,9 +100,7 @@ module _ (w out : List ℕ) (i : ℕ) (h : i < length w) (g : 4 * length w ≤ l
       let n : length p ≡ 4 * (i + 1) = length-append (take (4 * i) out) (bytesOf 4 x)
       ∙ ap₂ _+_ (length-take-le (4 * i) out (omega arith)) (length-bytes 4 x) ∙ omega arith in
       let f : 4 * i + length (bytesOf 4 x) ≤ length out = rw (length-bytes 4 x) (omega arith) in
-      ap (take (4 * (i + 1))) (sets-eq (bytesOf 4 x) out (4 * i) f) ∙ take-at p _ (4 * (i + 1)) n
-      ∙ ap₂ _++_ e (sym (append-nil (bytesOf 4 x))) ∙ sym (bytes-append (take i w) (x ∷ []))
-      ∙ ap bytes (sym (take-suc w i 0 h) ∙ ap (λ (k : ℕ). take k w) (sym (add-one i)))
+      rw (sets-eq (bytesOf 4 x) out (4 * i) f, take-at p _ (4 * (i + 1)) n, e, add-one, take-suc w i 0 h, bytes-append, append-nil)
 
   pub word-stored : take (4 * (i + 1))
       (set (set (set (set out (4 * i) (getD w i 0 / 0x1000000 % 256)) (4 * i + 1) (getD w i 0 / 0x10000 % 256)) (4 * i + 2)
@@ -128,13 +119,9 @@ unfolding padded
 pasted old n s h g =
     let k : length (take n old) ≡ n = length-take-le n old h in
     let z : paste (replicate 64 0) 0 (take n old) (length (take n old)) ≡ take n old ++ replicate (64 - n) 0 =
-    ap₂ _++_ (take-length (take n old)) (rw (k, zero-add) (drop-replicate n 64 0)) in
+    rw (take-length, k, zero-add, drop-replicate) in
     let d : drop (n + length s) (take n old ++ replicate (64 - n) 0) ≡ replicate (64 - length (take n old ++ s)) 0 =
     let q : 64 - n - length s ≡ 64 - length (take n old ++ s) = simp length-append (omega arith) in
     ap (λ (j : ℕ). drop (j + length s) (take n old ++ replicate (64 - n) 0)) (sym k)
-    ∙ drop-append-add (take n old) (replicate (64 - n) 0) (length s)
-    ∙ drop-replicate (length s) (64 - n) 0
-    ∙ ap (λ (j : ℕ). replicate j 0) q in
-    ap (λ (o : List ℕ). paste o n s (length s)) z
-    ∙ ap₂ (λ (a b : List ℕ). a ++ take (length s) s ++ b) (take-at (take n old) (replicate (64 - n) 0) n k) d
-    ∙ ap (λ (b : List ℕ). take n old ++ b ++ replicate (64 - length (take n old ++ s)) 0) (take-length s)
+    ∙ rw (drop-append-add, drop-replicate, q) in
+    rw (z, take-at (take n old) _ n k, d, take-length s)

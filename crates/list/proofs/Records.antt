@@ -1,5 +1,5 @@
 -- What the tests of the list say of numbers that were read, and the ways through its rules.
-use Prim.Native.Nat.{ℕ, suc, _+_, _-_, _*_, _/_, _≤_, _<_}
+use Prim.Native.Nat.{ℕ, suc, _+_, _*_, _≤_, _<_}
 use mathlib.Core.List.{List}
 use mathlib.Core.Bool.{Bool, true, false, not, _&&_}
 use mathlib.Core.Path.{_≡_, refl, sym, ap, ap₂, _∙_}
@@ -16,7 +16,6 @@ use Rattle.words.specs.Part.{RecordsOf}
 use Rattle.words.specs.Sums.{before}
 use Rattle.words.proofs.Parts.{run-in, part-number}
 use Rattle.words.proofs.Rows.{hit, miss, pass}
-use Rattle.words.proofs.Searches.{first-begins, first-stop, first-step, first-ends}
 use Rattle.list.specs.List.{recordsOf, lengthAt, kindAt, claimAt, spareAt, recordRule, flawed, sizeRule, badRecord, listRule, listPlace}
 
 -- a product of two numbers of 32 bits
@@ -24,9 +23,9 @@ pub square : (k z : ℕ) → k < 4294967296 → z < 4294967296 → k * z ≤ 184
 square k z h g = mul-le-mul {n₁ = k} {m₁ = z} {n₂ = 4294967295} {m₂ = 4294967295} (omega arith) (omega arith)
 
 -- the hash bytes of a record as a number
-pub claim-number : (s r : RefT (List ℕ)) (z k : ℕ) → k * z + 28 ≤ length (s .now) → RecordsOf s (k * z + 8) 20 1 r
+pub claim-number : {s r : RefT (List ℕ)} (z k : ℕ) → k * z + 28 ≤ length (s .now) → RecordsOf s (k * z + 8) 20 1 r
     → number (r .now) ≡ claimAt z (s .now) k
-claim-number s r z k h p = part-number (run-in s r (k * z + 8) 20 (omega arith) p) (omega arith)
+claim-number {s} {r} z k h p = part-number (run-in s r (k * z + 8) 20 (omega arith) p) (omega arith)
 
 -- the ways through a record's table: a is its kind, s whether it has stray hash bytes, b its spare bytes
 module _ (z : ℕ) (l : List ℕ) (k : ℕ) {a : ℕ} (p : a ≡ kindAt z l k) where
@@ -51,36 +50,20 @@ module _ (z : ℕ) (l : List ℕ) (k : ℕ) {a : ℕ} (p : a ≡ kindAt z l k) w
       unfolding recordRule
       record-fine g = miss 31 _ _ 0 low (miss 31 _ _ 0 (sym q ∙ e) (miss 31 _ 0 0 (le-ltb 0 (spareAt z l k) (omega arith)) refl))
 
-pub flawed-yes : (z : ℕ) (l : List ℕ) (k r : ℕ) → r ≡ recordRule z l k → 0 < r → flawed z l k ≡ true
-unfolding flawed
-flawed-yes z l k r p q = lt-ltb 0 (recordRule z l k) (omega arith)
-
-pub flawed-no : (z : ℕ) (l : List ℕ) (k r : ℕ) → r ≡ recordRule z l k → r ≤ 0 → flawed z l k ≡ false
-unfolding flawed
-flawed-no z l k r p q = le-ltb 0 (recordRule z l k) (omega arith)
-
-pub ruleset searching = (first-begins, first-stop, first-step, first-ends, flawed-yes, flawed-no)
-
 -- record k of n lies in the list
-pub record-room : (k n z m : ℕ) → k < n → 32 ≤ z → n * z ≤ m → k * z + 28 ≤ m
-record-room k n z m h g e = let q : suc k * z ≤ n * z = mul-le-mul-right z h in omega (arith, suc-mul k z)
+pub record-room : {k n z m : ℕ} → k < n → 32 ≤ z → n * z ≤ m → k * z + 28 ≤ m
+record-room {k} {n} {z} h g e = let q : suc k * z ≤ n * z = mul-le-mul-right z h in omega (arith, suc-mul k z)
 
 -- what a size that is not refused gives
-pub few : (z n : ℕ) (l : List ℕ) {m : ℕ} → m ≡ sizeRule z n l → m ≤ 0 → recordsOf z l ≤ 256
+pub size-fine : (z n : ℕ) (l : List ℕ) {m : ℕ} → m ≡ sizeRule z n l → m ≤ 0 → (n ≤ 1073741824) × (recordsOf z l ≤ 256)
 unfolding sizeRule
-few z n l e h =
+size-fine z n l e h =
     let y : sizeRule z n l ≡ 0 = omega arith in
     let p1 = pass 1 _ _ (lit< tt) y in
     let p2 = pass 30 _ _ (lit< tt) (p1 .1) in
     let p3 = pass 30 _ _ (lit< tt) (p2 .1) in
     let p4 = pass 30 _ _ (lit< tt) (p3 .1) in
-    ltb-false 256 (recordsOf z l) (p4 .0)
-
-pub small : (z n : ℕ) (l : List ℕ) {m : ℕ} → m ≡ sizeRule z n l → m ≤ 0 → n ≤ 1073741824
-unfolding sizeRule
-small z n l e h =
-    let y : sizeRule z n l ≡ 0 = omega arith in
-    ltb-false 1073741824 n (pass 1 _ _ (lit< tt) y .0)
+    (ltb-false _ n (p1 .0), ltb-false _ (recordsOf z l) (p4 .0))
 
 -- the numbers of a size's table
 row-low : (k : ℕ) (b : Bool) (rest : ℕ) → k < 31 → rest < 31 → (k if b else rest) < 31
@@ -154,4 +137,5 @@ list-sound z n l = go (ltb 0 (sizeRule z n l)) refl
         let p1 = pass 31 (ltb (badRecord z l) (recordsOf z l)) (32 if not (eqb (before (lengthAt z l) (recordsOf z l)) n) else 0) (lit< tt)
         e in
         let p2 = pass 32 _ 0 (lit< tt) (p1 .1) in
-        (small z n l (sym y) (omega arith), few z n l (sym y) (omega arith), eqb-true _ _ (not-false _ (p2 .0)))
+        let s = size-fine z n l (sym y) (omega arith) in
+        (s .0, s .1, eqb-true _ _ (not-false _ (p2 .0)))

@@ -1,2 +1,4 @@
 pub mod Reading
 pub mod Ways
+pub mod Saying
+pub mod Results

@@ -34,6 +34,10 @@ use Rattle.parents.specs.declared.Answer.the-variants.{Parent as Told}
 use Rattle.steps.proofs.Walking.{edge-there}
 use Rattle.marks.specs.Marks.{fieldAt, edgeAt, secondAt, placeOf}
 
+-- two cases that differ are never one
+pub no : _≡_ {A = ℕ} 0 1 → ⊥
+no e = omega arith
+
 -- what a word says of the parent that it gives
 edge-said : (x : ℕ) {p : Position} → edgeOf x ≡ GraphPosition p → p .0 ≡ x % 0x80000000
 unfolding edgeOf _if_else_
@@ -42,8 +46,8 @@ edge-said x {p} e = go (eqb x 0x70000000) (leb 0x80000000 x) refl e
     go : (t u : Bool) → leb 0x80000000 x ≡ u
         → (None if t else ExtraEdgeIndex (x - 0x80000000) if u else GraphPosition (record { 0 = x })) ≡ GraphPosition p
         → p .0 ≡ x % 0x80000000
-    go true u d e = let z : _≡_ {A = ℕ} 0 1 = cc in absurd (omega arith)
-    go false true d e = let z : _≡_ {A = ℕ} 0 1 = cc in absurd (omega arith)
+    go true u d e = cc
+    go false true d e = cc
     go false false d e =
         let z : _≡_ {A = Position} (record { 0 = x }) p = cc in
         let y : x ≡ p .0 = ap (λ (q : Position). q .0) z in
@@ -74,19 +78,19 @@ edge-met t e k {q} b = go (edgeRule t e k) refl
     go : (m : ℕ) → edgeRule t e k ≡ m → refuse m stop (extraNext (extraOf (be 4 e (4 * k))) k) .met ≡ Parent q
         → (4 * k + 4 ≤ length e) × (q .position .0 ≡ be 4 e (4 * k) % 0x80000000)
     go zero d h = (edge-there t e k (sym d) (omega arith), extra-said (be 4 e (4 * k)) k (be-below e b 4 (4 * k)) h)
-    go (suc m) d h = let z : _≡_ {A = ℕ} 0 1 = cc in absurd (omega arith)
+    go (suc m) d h = absurd (no (cc))
 
 -- a step that answers a parent is asked of a commit that is there, and meets that parent
 refuse-met : (m : ℕ) (x : Step) {q : Ancestor} → refuse m refusedStep x .answer ≡ Told q → (m ≡ 0) × (x .answer ≡ Told q)
 unfolding refuse
 refuse-met zero x e = (refl, e)
-refuse-met (suc m) x e = let z : _≡_ {A = ℕ} 0 1 = cc in absurd (omega arith)
+refuse-met (suc m) x e = (cc, cc)
 
 met-of : (i : ℕ) (m : Met) {q : Ancestor} → answerOf i m ≡ Told q → m ≡ Parent q
 unfolding answerOf
 met-of i (Parent p) e = cc
-met-of i (Refused n) e = let z : _≡_ {A = ℕ} 0 1 = cc in absurd (omega arith)
-met-of i End e = let z : _≡_ {A = ℕ} 0 1 = cc in absurd (omega arith)
+met-of i (Refused n) e = cc
+met-of i End e = cc
 
 abbrev nextAt : List ℕ → File → ℕ → Phase → Next
 nextAt l f i s = nextOf (rowOf l f i .first) (rowOf l f i .second) (not (absent (f .edge))) (edgePart l f) s
@@ -130,20 +134,20 @@ module _ {l : List ℕ} {f : File} {i : ℕ} (k : Answered l f (f .commits) i) w
   -- by the words, and by the phase
   alone-none : (b : ParentEdge) {q : Ancestor} → aloneNext b .met ≡ Parent q → ⊥
   unfolding aloneNext
-  alone-none None e = let z : _≡_ {A = ℕ} 0 1 = cc in omega arith
-  alone-none (GraphPosition p) e = let z : _≡_ {A = ℕ} 0 1 = cc in omega arith
-  alone-none (ExtraEdgeIndex j) e = let z : _≡_ {A = ℕ} 0 1 = cc in omega arith
+  alone-none None e = no (cc)
+  alone-none (GraphPosition p) e = no (cc)
+  alone-none (ExtraEdgeIndex j) e = no (cc)
 
   first-word : (a b : ParentEdge) {q : Ancestor} → rowOf l f i .first ≡ a → firstNext a b .met ≡ Parent q → Word l (fieldAt f i 0) q
   unfolding firstNext commitOf
   first-word None b {q} d e = absurd (alone-none b e)
   first-word (GraphPosition p) b {q} d e = row-word 0 _ q (omega arith) (omega arith) (d ∙ cc)
-  first-word (ExtraEdgeIndex j) b d e = let z : _≡_ {A = ℕ} 0 1 = cc in absurd (omega arith)
+  first-word (ExtraEdgeIndex j) b d e = absurd (no (cc))
 
   second-word : (b : ParentEdge) {q : Ancestor} → Bytes l → rowOf l f i .second ≡ b
       → secondNext (not (absent (f .edge))) (edgePart l f) b .met ≡ Parent q → Word l (secondAt f i b) q
   unfolding secondNext secondAt commitOf
-  second-word None y d e = let z : _≡_ {A = ℕ} 0 1 = cc in absurd (omega arith)
+  second-word None y d e = absurd (no (cc))
   second-word (GraphPosition p) {q} y d e = row-word 4 _ q (omega arith) (omega arith) (d ∙ cc)
   second-word (ExtraEdgeIndex j) {q} y d e = edge-word j y e
 
@@ -152,7 +156,7 @@ module _ {l : List ℕ} {f : File} {i : ℕ} (k : Answered l f (f .commits) i) w
   next-word First {q} y e = first-word (rowOf l f i .first) (rowOf l f i .second) refl e
   next-word Second {q} y e = second-word (rowOf l f i .second) y refl e
   next-word (Edge j) {q} y e = edge-word j y e
-  next-word Exhausted y e = let z : _≡_ {A = ℕ} 0 1 = cc in absurd (omega arith)
+  next-word Exhausted y e = absurd (no (cc))
 
 pub step-word : (l : List ℕ) (f : File) (i : ℕ) (s : Phase) {q : Ancestor} → Bytes l → stepOf l f i s .answer ≡ Told q
     → Answered l f (f .commits) i × Word l (placeOf l f i s) q

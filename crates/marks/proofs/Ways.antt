@@ -26,11 +26,12 @@ use Rattle.parents.specs.declared.Answer.the-variants.{Parent, Refused as No, E
 use Rattle.rules.specs.Rules.{sumRule, sumIn, entryRule, entryIn}
 use Rattle.rules.proofs.Trailers.{sum-plain}
 use Rattle.rules.proofs.Entries.{entry-plain}
-use Rattle.marks.specs.Marks.{run, fieldAt, placeOf, markBy, wordOf, Meets, Reads, Read, dateOf, entryOf, sizeRule, trailerAt, checkOf, notMarked, notFine}
+use Rattle.marks.specs.Marks.{run, fieldAt, placeOf, markBy, wordOf, Meets, Reads, Read, dateOf, entryOf, sizeRule}
+use Rattle.marks.specs.Marks.{trailerAt, checkOf, notMarked, notFine}
 use Rattle.marks.specs.declared.Mark.{Mark}
 use Rattle.marks.specs.declared.Mark.the-variants.{At, Refused}
 use Rattle.marks.specs.declared.Checked.the-variants.{Right, Wrong, Refused as Bad}
-use Rattle.marks.proofs.Reading.{step-word}
+use Rattle.marks.proofs.Reading.{no, step-word}
 
 -- ── a parent: x is what the step gave ──
 
@@ -52,8 +53,8 @@ module _ (l : List ℕ) (f : File) (i : ℕ) (s : Phase) where
             inside = w .inside;
             parent = d ∙ ap (λ (n : ℕ). Parent (record { position = record { 0 = n } })) (w .parent);
           })
-      go (No r) d e = let z : _≡_ {A = ℕ} 0 1 = cc in absurd (omega arith)
-      go End d e = let z : _≡_ {A = ℕ} 0 1 = cc in absurd (omega arith)
+      go (No r) d e = absurd (no (cc))
+      go End d e = absurd (no (cc))
 
   pub word-both : Bytes l → {x : Step} → x ≡ stepOf l f i s → {v : Answer} → x .answer ≡ v → {r : Mark} → r ≡ markBy v (placeOf l f i s) 4
       → (r ≡ wordOf l f i s) × Read l f i s r
@@ -87,7 +88,7 @@ module _ (l : List ℕ) (f : File) (i : ℕ) where
     plain : n ≡ entryRule (f .width) (fanPart l f) (idsPart l f) (rowsPart l f) i
     plain =
         d
-        ∙ entry-plain (f .width) (fanPart l f) (idsPart l f) (rowsPart l f) i (eq-eqb _ _ (k .width))
+        ∙ entry-plain (f .width) (fanPart l f) (idsPart l f) (rowsPart l f) i (k .known)
         (omega (arith, length-part (f .oidf) 1024 l (k .fits .fan)))
         (rw (length-part (f .oidl) (f .commits * f .width) l (k .fits .ids)) (run-within i (f .commits) (f .width) (k .below)))
         (rw (length-part (f .cdat) _ l (k .fits .rows)) (run-within i (f .commits) (f .width + 16) (k .below)))

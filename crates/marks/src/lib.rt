@@ -19,6 +19,9 @@ use types::refusal::TOO_LARGE;
 use types::refusal::TOO_SMALL;
 use words::part::part;
 ghost use mathlib.Core.Path.{_≡_};
+ghost use Rattle.access.specs.Said.{askingSaid};
+ghost use Rattle.marks.specs.Said.{markSaid, checkedSaid};
+ghost use Rattle.types.specs.Said.{Answers};
 ghost use Prim.Native.Nat.{_^_, _<_};
 ghost use Rattle.steps.specs.declared.Phase.the-variants.{Second};
 ghost use Rattle.marks.specs.Marks.{fieldAt, edgeAt, placeOf, Meets, wordOf, Read, dateOf, entryOf, checkOf};
@@ -88,7 +91,7 @@ fn place(s: &[u8], f: File, pos: Position, phase: Phase) -> usize
 
 // The word that holds the parent which the step from this phase answers. Nothing where it answers the end.
 pub fn word_at(s: &[u8], f: File, pos: Position, phase: Phase) -> Mark
-    ensures is { λ r. ⌜ r ≡ wordOf (now (s .entry)) f (pos .0) phase ⌝ }
+    ensures is { λ r. ⌜ Answers markSaid r (wordOf (now (s .entry)) f (pos .0) phase) ⌝ }
     ensures read { λ r. ⌜ Read (now (s .entry)) f (pos .0) phase r ⌝ }
 {
     let x = step_at(s, f, pos, phase);
@@ -106,7 +109,7 @@ pub fn word_at(s: &[u8], f: File, pos: Position, phase: Phase) -> Mark
 
 // The 8 bytes that hold a commit's generation and time.
 pub fn date_at(s: &[u8], f: File, pos: Position) -> Mark
-    ensures { λ r. ⌜ r ≡ dateOf (now (s .entry)) f (pos .0) ⌝ }
+    ensures { λ r. ⌜ Answers markSaid r (dateOf (now (s .entry)) f (pos .0)) ⌝ }
 {
     let m = ask(s, f, f.commits, pos.0);
     if 0 < m {
@@ -119,7 +122,7 @@ pub fn date_at(s: &[u8], f: File, pos: Position) -> Mark
 
 // Which of 64 to 67 a commit meets, or 40 where there is no such commit.
 pub fn entry_at(s: &[u8], f: File, pos: Position) -> Asking
-    ensures { λ r. ⌜ r ≡ entryOf (now (s .entry)) f (pos .0) ⌝ }
+    ensures { λ r. ⌜ Answers askingSaid r (entryOf (now (s .entry)) f (pos .0)) ⌝ }
 {
     let m = ask(s, f, f.commits, pos.0);
     if 0 < m {
@@ -139,7 +142,7 @@ pub fn entry_at(s: &[u8], f: File, pos: Position) -> Asking
 
 // The trailer of any bytes of a file's size, also where the file does not open.
 pub fn trailer(s: &[u8]) -> Checked
-    ensures { λ r. ⌜ r ≡ checkOf (now (s .entry)) ⌝ }
+    ensures { λ r. ⌜ Answers checkedSaid r (checkOf (now (s .entry))) ⌝ }
 {
     let n = s.len();
     if 1073741824 < n {

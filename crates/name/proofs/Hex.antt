@@ -1,25 +1,14 @@
 -- The hex digits of a name.
 use Prim.Native.Nat.{ℕ, _+_, _*_, _<_, _≤_}
 use mathlib.Core.List.{List}
-use mathlib.Core.Bool.{true, false}
 use mathlib.Core.Path.{_≡_}
 use native.Mathlib.Omega.{arith}
 use lib.ListN.{getD}
-use borrow.Author.Tests.{lt-ltb, le-ltb, eqb-true, ltb-false, not-false}
+use borrow.Author.Tests.{eqb-true, ltb-false, not-false}
 use Rattle.words.proofs.Rows.{other}
-use Rattle.words.proofs.Searches.{first-begins, first-stop, first-step, first-ends, first-none}
+use Rattle.words.proofs.Searches.{first-none}
 use Rattle.name.specs.Names.{digitOf, misfit, kindOf, Hexed}
 use Rattle.name.specs.declared.Name.{Name}
-
-pub misfit-yes : (l : List ℕ) (i r : ℕ) → r ≡ digitOf (getD l (6 + i) 0) → 15 < r → misfit l i ≡ true
-unfolding misfit
-misfit-yes l i r e h = lt-ltb 15 (digitOf (getD l (6 + i) 0)) (omega arith)
-
-pub misfit-no : (l : List ℕ) (i r : ℕ) → r ≡ digitOf (getD l (6 + i) 0) → r ≤ 15 → misfit l i ≡ false
-unfolding misfit
-misfit-no l i r e h = le-ltb 15 (digitOf (getD l (6 + i) 0)) (omega arith)
-
-pub ruleset searching = (first-begins, first-stop, first-step, first-ends, misfit-yes, misfit-no)
 
 -- a name of kind 1 has its digits
 pub hexed : (w : ℕ) (l : List ℕ) → kindOf w l ≡ 1 → Hexed w l

@@ -1,1 +1,3 @@
 pub mod Ordered
+pub mod Saying
+pub mod Results

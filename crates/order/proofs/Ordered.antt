@@ -3,7 +3,7 @@ use Prim.Native.Nat.{ℕ, zero, suc, _+_, _-_, _*_, _^_, _≤_, _<_, min}
 use mathlib.Core.List.{List}
 use mathlib.Core.Bool.{Bool, true, false}
 use mathlib.Core.Path.{_≡_, refl, sym, ap, subst, _∙_}
-use mathlib.Core.Logic.{_⊎_, ⊎-elim}
+use mathlib.Core.Logic.{⊎-elim}
 use native.Mathlib.Omega.{arith}
 use native.Mathlib.Nat.{zero-add, add-zero, eq-or-lt-of-le, le-of-suc-le-suc}
 use lib.Arith.{le-zero, lt-of-le-ne}
@@ -77,16 +77,21 @@ module _ (a b : List ℕ) (i j : ℕ) where
         (λ q. same-bytes w (omega (arith, ba (i + w), bb (j + w))) k q)
         (eq-or-lt-of-le (le-of-suc-le-suc h))
 
--- x against the run of as many bytes at `at` of s, of which the first n lie in s: how it stands once k are known to be the same
-module _ (x s : List ℕ) (at : ℕ) {n : ℕ} (k : ℕ) (i : n ≡ min (length x) (length s - at)) (e : be k x 0 ≡ be k s at) where
+-- x against the run of as many bytes at `at` of s, of which the first n lie in s: the first k are the same
+pub record Comparing (x s : List ℕ) (at n k : ℕ) : Type 0 where
+  pub few : k ≤ n
+  pub reach : n ≡ min (length x) (length s - at)
+  pub same : be k x 0 ≡ be k s at
+
+module _ {x s : List ℕ} {at n k : ℕ} (p : Comparing x s at n k) where
   pub compare-less : Bytes x → Bytes s → k < n → getD x k 0 < getD s (at + k) 0 → Less ≡ order (number x) (be (length x) s at)
-  compare-less bx bs h g = sym (order-less _ _ (less-at x s 0 at bx bs (length x) k (omega arith) e (rw zero-add g)))
+  compare-less bx bs h g = sym (order-less _ _ (less-at x s 0 at bx bs (length x) k (omega arith) (p .same) (rw zero-add g)))
 
   pub compare-greater : Bytes x → Bytes s → k < n → getD s (at + k) 0 < getD x k 0 → Greater ≡ order (number x) (be (length x) s at)
-  compare-greater bx bs h g = sym (order-greater _ _ (less-at s x at 0 bs bx (length x) k (omega arith) (sym e) (rw zero-add g)))
+  compare-greater bx bs h g = sym (order-greater _ _ (less-at s x at 0 bs bx (length x) k (omega arith) (sym (p .same)) (rw zero-add g)))
 
-  pub compare-on : getD x k 0 ≤ getD s (at + k) 0 → getD s (at + k) 0 ≤ getD x k 0 → be (k + 1) x 0 ≡ be (k + 1) s at
-  compare-on h g = one-more x s 0 at k e (rw zero-add (omega arith))
+  pub compare-on : k < n → getD x k 0 ≤ getD s (at + k) 0 → getD s (at + k) 0 ≤ getD x k 0 → Comparing x s at n (k + 1)
+  compare-on l h g = record { few = omega arith; reach = p .reach; same = one-more x s 0 at k (p .same) (rw zero-add (omega arith)) }
 
   -- all n are the same: what is left of x stands against nothing
   module _ (h : k ≡ n) where
@@ -109,13 +114,13 @@ module _ (x s : List ℕ) (at : ℕ) {n : ℕ} (k : ℕ) (i : n ≡ min (length 
     pub compare-equal : true ≡ eqb (number (take (length x - n) (drop n x))) 0 → Equal ≡ order (number x) (be (length x) s at)
     compare-equal t =
         sym (order-equal (rw all at
-        (tail-equal x s 0 at n (length x - n) (rw h at e) nothing (sym rest ∙ eqb-true _ _ (sym t)))))
+        (tail-equal x s 0 at n (length x - n) (rw h at (p .same)) nothing (sym rest ∙ eqb-true _ _ (sym t)))))
 
     pub compare-longer : false ≡ eqb (number (take (length x - n) (drop n x))) 0 → Greater ≡ order (number x) (be (length x) s at)
     compare-longer t =
-        let p : 0 < be (length x - n) x (0 + n) = ⊎-elim (λ z. absurd (eqb-false _ _ (sym t) (rest ∙ le-zero z))) (λ z. z)
+        let m : 0 < be (length x - n) x (0 + n) = ⊎-elim (λ z. absurd (eqb-false _ _ (sym t) (rest ∙ le-zero z))) (λ z. z)
         (le-or-lt (be (length x - n) x (0 + n)) 0) in
-        sym (order-greater _ _ (rw all at (tail-greater x s 0 at n (length x - n) (rw h at e) nothing p)))
+        sym (order-greater _ _ (rw all at (tail-greater x s 0 at n (length x - n) (rw h at (p .same)) nothing m)))
 
 -- what an order says of the numbers
 abbrev pub Says : ℕ → ℕ → Order → Type 0

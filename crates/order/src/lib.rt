@@ -1,5 +1,7 @@
 // How two runs of bytes stand to each other: as numbers, so the first difference decides.
 ghost use mathlib.Core.Path.{_≡_};
+ghost use Rattle.order.specs.Said.{orderSaid};
+ghost use Rattle.types.specs.Said.{Answers};
 ghost use Prim.Native.Nat.{_-_, min};
 ghost use lib.ListN.{length};
 ghost use lib.Dec.{eqb};
@@ -38,7 +40,7 @@ fn reach(len: usize, at: usize, n: usize) -> usize
 
 // How `x` stands to the run of as many bytes at `at` of `s`; a byte past the end of `s` counts as 0.
 pub fn compare(x: &[u8], s: &[u8], at: usize) -> Order
-    ensures { λ r. ⌜ r ≡ order (number (now (x .entry))) (be (length (now (x .entry))) (now (s .entry)) at) ⌝ }
+    ensures { λ r. ⌜ Answers orderSaid r (order (number (now (x .entry))) (be (length (now (x .entry))) (now (s .entry)) at)) ⌝ }
 {
     let n = reach(s.len(), at, x.len());
     let mut k = 0;

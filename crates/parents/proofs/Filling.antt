@@ -39,15 +39,15 @@ module _ (xs : List ℕ) (w : Walked) where
   fill-begins = record { few = omega arith; rest = refl }
 
 module _ {whole : List ℕ} {w : Walked} {n : ℕ} {out : List ℕ} (f : Filling whole w n out) where
-  pub fill-next : (p : ℕ) (v : Walked) → w ≡ parent p v → n < length out → Filling whole v (n + 1) (set out n p)
+  pub fill-next : {p : ℕ} {v : Walked} → w ≡ parent p v → n < length out → Filling whole v (n + 1) (set out n p)
   unfolding positions
-  fill-next p v e h =
+  fill-next {p} {v} e h =
       let g : take n out ++ overlay (p ∷ positions v) (drop n out) ≡ whole = rw e at (f .rest) in
       record { few = rw (length-set out n p) (omega arith); rest = rw add-one (sym (over-set (positions v) out n p h) ∙ g) }
 
-  pub fill-stops : (r : ℕ) → w ≡ ends r → out ≡ whole
+  pub fill-stops : {r : ℕ} → w ≡ ends r → out ≡ whole
   unfolding positions overlay
-  fill-stops r e =
+  fill-stops e =
       let g : take n out ++ drop n out ≡ whole = rw e at (f .rest) in
       sym (take-append-drop n out) ∙ g
 

@@ -1,2 +1,4 @@
 pub mod Walking
 pub mod Filling
+pub mod Results
+pub mod Saying

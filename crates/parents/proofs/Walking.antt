@@ -27,10 +27,10 @@ use Rattle.steps.proofs.Walking.{Fair, next-fair}
 
 -- a step of a file's commit, where the question is refused by r, and where it is not
 module _ (l : List ℕ) (f : File) (i : ℕ) (s : Phase) where
-  pub step-misfit : (r : Refusal) → (0 < askRule l f (f .commits) i) × (r ≡ refusal (askRule l f (f .commits) i) 0)
+  pub step-misfit : {r : Refusal} → (0 < askRule l f (f .commits) i) × (r ≡ refusal (askRule l f (f .commits) i) 0)
       → record { answer = AnsweredNo r; next = Exhausted } ≡ stepOf l f i s
   unfolding stepOf
-  step-misfit r k = rw (k .1) (refuse-some _ refusedStep _ (k .0))
+  step-misfit k = rw (k .1) (refuse-some _ refusedStep _ (k .0))
 
   pub step-plain : askRule l f (f .commits) i ≡ 0
       → stepBy i (nextOf (rowOf l f i .first) (rowOf l f i .second) (not (absent (f .edge))) (edgePart l f) s) ≡ stepOf l f i s
@@ -64,10 +64,10 @@ step-told l f i s = go (askRule l f (f .commits) i)
 
 -- the number of its parents
 module _ (l : List ℕ) (f : File) (i : ℕ) where
-  pub total-misfit : (r : Refusal) → (0 < askRule l f (f .commits) i) × (r ≡ refusal (askRule l f (f .commits) i) 0)
+  pub total-misfit : {r : Refusal} → (0 < askRule l f (f .commits) i) × (r ≡ refusal (askRule l f (f .commits) i) 0)
       → Short r ≡ totalOf l f i
   unfolding totalOf
-  total-misfit r k = rw (k .1) (refuse-some _ notCounted _ (k .0))
+  total-misfit k = rw (k .1) (refuse-some _ notCounted _ (k .0))
 
   pub total-plain : askRule l f (f .commits) i ≡ 0
       → {x v : Counted}

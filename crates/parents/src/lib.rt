@@ -18,6 +18,8 @@ use types::refusal;
 use types::refusal::Refusal;
 use words::part::part;
 ghost use mathlib.Core.Path.{_≡_};
+ghost use Rattle.parents.specs.Said.{stepSaid, totalSaid};
+ghost use Rattle.types.specs.Said.{Answers};
 ghost use mathlib.Core.Bool.{not};
 ghost use Rattle.words.specs.Part.{PartOf};
 ghost use Rattle.chunk.specs.Index.{absent, startOf, sizeOf};
@@ -83,7 +85,7 @@ pub(crate) fn present(f: File) -> bool
 
 // One step of a file's commit. A phase may be forged: every EDGE number has its answer.
 pub fn step_at(s: &[u8], f: File, pos: types::file::Position, phase: Phase) -> Step
-    ensures { λ r. ⌜ r ≡ stepOf (now (s .entry)) f (pos .0) phase ⌝ }
+    ensures { λ r. ⌜ Answers stepSaid r (stepOf (now (s .entry)) f (pos .0) phase) ⌝ }
 {
     match commit_at(s, f, pos) {
         Asked::Refused(r) => Step {
@@ -101,7 +103,7 @@ pub fn step_at(s: &[u8], f: File, pos: types::file::Position, phase: Phase) -> S
 
 // How many parents a file's commit has, or the refusal that its walk meets.
 pub fn count_at(s: &[u8], f: File, pos: types::file::Position) -> Total
-    ensures { λ r. ⌜ r ≡ totalOf (now (s .entry)) f (pos .0) ⌝ }
+    ensures { λ r. ⌜ Answers totalSaid r (totalOf (now (s .entry)) f (pos .0)) ⌝ }
 {
     match commit_at(s, f, pos) {
         Asked::Refused(r) => Total::Refused(r),

@@ -15,6 +15,8 @@ use types::file::Position;
 use types::refusal;
 use types::refusal::LIST_FULL;
 ghost use mathlib.Core.Path.{_≡_};
+ghost use Rattle.parents.specs.Said.{totalSaid};
+ghost use Rattle.types.specs.Said.{Answers};
 ghost use lib.ListN.{length};
 ghost use Rattle.steps.specs.Walks.{firstWalk, positions};
 ghost use Rattle.parents.specs.Lists.{overlay, listOf, heldOf};
@@ -48,7 +50,7 @@ fn fill_in(first: ParentEdge, second: ParentEdge, edge: &[u8], there: bool, out:
 
 // The parents of a file's commit into `out`, and how many; on refusal nothing is written. Counted first, so that a refusal is known before.
 pub fn list_at(s: &[u8], f: File, pos: Position, out: &mut [u32]) -> Total
-    ensures answer { λ r. ⌜ r ≡ listOf (now (s .entry)) f (pos .0) (length (now (out .entry))) ⌝ }
+    ensures answer { λ r. ⌜ Answers totalSaid r (listOf (now (s .entry)) f (pos .0) (length (now (out .entry)))) ⌝ }
     ensures holds { λ r. ⌜ now (out .exit) ≡ heldOf (now (s .entry)) f (pos .0) (now (out .entry)) ⌝ }
 {
     match commit_at(s, f, pos) {

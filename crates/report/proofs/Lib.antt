@@ -1,3 +1,4 @@
 pub mod Putting
 pub mod Reading
 pub mod Examples
+pub mod Results

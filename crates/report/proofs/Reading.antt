@@ -20,8 +20,8 @@ use Rattle.report.proofs.Putting.{start-size, start-holds}
 third : (a b c d : Bool) → (a && b && c && d) ≡ true → c ≡ true
 third true true true d e = refl
 third true true false d e = e
-third true false c d e = let z : _≡_ {A = ℕ} 0 1 = cc in absurd (omega arith)
-third false b c d e = let z : _≡_ {A = ℕ} 0 1 = cc in absurd (omega arith)
+third true false c d e = cc
+third false b c d e = cc
 
 module _ (input : List ℕ) where
   pub short : length input < 4 → false ≡ readable input

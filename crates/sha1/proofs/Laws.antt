@@ -1,16 +1,15 @@
 -- A hasher that has had a message gives the digest of it.
 use mathlib.Core.Path.{_≡_, refl, ap, _∙_}
 use Prim.Native.Nat.{ℕ, _+_, _%_, _^_}
-use mathlib.Core.List.{List, _++_}
+use mathlib.Core.List.{List}
 use native.Mathlib.Omega.{arith}
 use lib.ListN.{length}
 use Rattle.block.specs.Message.{afterAll}
 use Rattle.block.specs.Fips.{compress}
-use Rattle.hasher.specs.Message.{padding, bytes}
+use Rattle.hasher.specs.Message.{padding}
 use Rattle.hasher.specs.Feed.{opened, nextWords, nextCount}
 use Rattle.hasher.specs.Fips.{initial}
 use Rattle.hasher.specs.State.{started, updated, finished, hasherOf}
-use Rattle.hasher.specs.declared.Hasher.{Hasher}
 use Rattle.hasher.proofs.Fed.{padding-mod}
 use Rattle.hasher.proofs.Laws.{of-more}
 use Rattle.sha1.specs.Fips.{digestOf, sha1Of}
@@ -28,7 +27,4 @@ padding-of l =
 
 pub of-finished : (l : List ℕ) → finished (hasherOf l) ≡ sha1Of l
 unfolding finished sha1Of digestOf
-of-finished l =
-    ap (λ (x : List ℕ). bytes (updated (hasherOf l) x .words)) (padding-of l)
-    ∙ ap (λ (h : Hasher). bytes (h .words)) (of-more l (padding (length l)))
-    ∙ ap bytes (words-of (l ++ padding (length l)))
+of-finished l = rw (padding-of, of-more, words-of)

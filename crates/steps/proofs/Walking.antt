@@ -10,7 +10,9 @@ use borrow.Author.Tests.{le-leb, lt-leb, ltb-false}
 use Rattle.words.specs.Big.{be}
 use Rattle.words.specs.First.{_if_else_, refuse}
 use Rattle.words.proofs.Rows.{pass, refuse-some}
-use Rattle.steps.specs.Walks.{extraOf, stop, edgeRule, extraNext, edgeNext, secondNext, aloneNext, firstNext, nextOf, Walked, ends, parent, extraWalk, edgeFrom, wordsIn, edgeWalk, secondWalk, aloneWalk, firstWalk, restOf, positions, endOf, counted, countFrom, countOf}
+use Rattle.steps.specs.Walks.{extraOf, stop, edgeRule, extraNext, edgeNext, secondNext, aloneNext, firstNext, nextOf}
+use Rattle.steps.specs.Walks.{Walked, ends, parent, extraWalk, edgeFrom, wordsIn, edgeWalk, secondWalk, aloneWalk, firstWalk, restOf}
+use Rattle.steps.specs.Walks.{positions, endOf, counted, countFrom, countOf}
 use Rattle.commit.specs.declared.ParentEdge.{ParentEdge}
 use Rattle.commit.specs.declared.ParentEdge.the-variants.{None, GraphPosition, ExtraEdgeIndex}
 use Rattle.steps.specs.declared.ExtraEdge.{ExtraEdge}
@@ -221,7 +223,7 @@ count-walk n (parent p w) = count-walk (n + 1) w ∙ ap (counted (endOf w)) (ome
 counted-all : (r n : ℕ) {m : ℕ} → counted r n ≡ Count m → (r ≡ 0) × (n ≡ m)
 unfolding counted
 counted-all zero n e = (refl, cc)
-counted-all (suc r) n e = let z : _≡_ {A = ℕ} 0 1 = cc in absurd (omega arith)
+counted-all (suc r) n e = (cc, cc)
 
 counted-short : (r n : ℕ) {m : ℕ} → counted r n ≡ Stopped m → (r ≡ m) × (0 < m)
 unfolding counted
@@ -229,14 +231,17 @@ counted-short zero n e = let z : _≡_ {A = ℕ} 0 1 = cc in absurd (omega arith
 counted-short (suc r) n {m} e = let q : suc r ≡ m = cc in (q, omega arith)
 
 module _ (a b : ParentEdge) (t : Bool) (e : List ℕ) where
-  count-is : countOf a b t e ≡ counted (endOf (firstWalk a b t e)) (length (positions (firstWalk a b t e)))
+  abbrev whole : Walked
+  whole = firstWalk a b t e
+
+  count-is : countOf a b t e ≡ counted (endOf whole) (length (positions whole))
   unfolding countOf
-  count-is = count-walk 0 (firstWalk a b t e) ∙ ap (counted (endOf (firstWalk a b t e))) (omega arith)
+  count-is = count-walk 0 whole ∙ ap (counted (endOf whole)) (omega arith)
 
   -- x is what the count said
   module _ {x : Counted} (d : x ≡ countOf a b t e) where
-    pub count-all : {m : ℕ} → x ≡ Count m → (endOf (firstWalk a b t e) ≡ 0) × (length (positions (firstWalk a b t e)) ≡ m)
+    pub count-all : {m : ℕ} → x ≡ Count m → (endOf whole ≡ 0) × (length (positions whole) ≡ m)
     count-all {m} h = counted-all _ _ (sym count-is ∙ sym d ∙ h)
 
-    pub count-short : {m : ℕ} → x ≡ Stopped m → (endOf (firstWalk a b t e) ≡ m) × (0 < m)
+    pub count-short : {m : ℕ} → x ≡ Stopped m → (endOf whole ≡ m) × (0 < m)
     count-short {m} h = counted-short _ _ (sym count-is ∙ sym d ∙ h)

@@ -8,6 +8,8 @@ use types::refusal::FIRST_EDGE;
 use types::refusal::SECOND_ALONE;
 use words::big::be32;
 ghost use mathlib.Core.Path.{_≡_};
+ghost use Rattle.types.specs.Said.{Answers};
+ghost use Rattle.steps.specs.Said.{phaseOf, nextSaid, countedSaid, phaseSaid};
 ghost use Rattle.steps.specs.Walks.{
   extraOf,
   stop,
@@ -54,6 +56,22 @@ pub struct Next {
 pub enum Counted {
     Count(usize),
     Refused(u32),
+}
+
+// The phase of a number and an EDGE number; a number that is none of a phase counts as exhausted.
+pub fn phase_of(kind: u32, k: usize) -> Phase
+    ensures { λ r. ⌜ Answers phaseSaid r (phaseOf kind k) ⌝ }
+{
+    if kind == 0 {
+        return Phase::First;
+    }
+    if kind == 1 {
+        return Phase::Second;
+    }
+    if kind == 2 {
+        return Phase::Edge(k);
+    }
+    Phase::Exhausted
 }
 
 fn extra_edge(raw: u32) -> ExtraEdge
@@ -159,7 +177,7 @@ pub fn step_in(
     there: bool,
     phase: Phase,
 ) -> Next
-    ensures { λ r. ⌜ r ≡ nextOf first second there (now (edge .entry)) phase ⌝ }
+    ensures { λ r. ⌜ Answers nextSaid r (nextOf first second there (now (edge .entry)) phase) ⌝ }
 {
     match phase {
         Phase::First => first_step(first, second),
@@ -171,7 +189,7 @@ pub fn step_in(
 
 // How many parents the walk meets, or the refusal it meets.
 pub fn count_in(first: ParentEdge, second: ParentEdge, edge: &[u8], there: bool) -> Counted
-    ensures { λ r. ⌜ r ≡ countOf first second there (now (edge .entry)) ⌝ }
+    ensures { λ r. ⌜ Answers countedSaid r (countOf first second there (now (edge .entry))) ⌝ }
 {
     let mut phase = Phase::First;
     let mut n = 0;

@@ -1,1 +1,2 @@
 pub mod Trailing
+pub mod Results

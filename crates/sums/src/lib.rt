@@ -5,7 +5,8 @@ use fit::fit;
 use rules::sum_in;
 use types::refusal;
 use words::part::part;
-ghost use mathlib.Core.Path.{_≡_};
+ghost use Rattle.access.specs.Said.{askingSaid};
+ghost use Rattle.types.specs.Said.{Answers};
 ghost use Prim.Native.Nat.{_-_};
 ghost use lib.ListN.{length};
 ghost use Rattle.fit.specs.Fits.{fitRule, AskedPart};
@@ -24,7 +25,7 @@ pub fn checksum<'a>(s: &'a [u8], f: File) -> &'a [u8]
 
 // Which refusal the trailer meets: 62, or 40 where the record does not fit.
 pub fn verify_checksum(s: &[u8], f: File) -> Asking
-    ensures { λ r. ⌜ r ≡ asking (checksumRule (now (s .entry)) f) ⌝ }
+    ensures { λ r. ⌜ Answers askingSaid r (asking (checksumRule (now (s .entry)) f)) ⌝ }
 {
     let m = fit(s, f);
     if 0 < m {

@@ -30,15 +30,15 @@ fill-begins n d h e =
       so-far = rw (drop-of-length-le d {i = 20} (omega arith)) (sym (append-nil (dec n)));
     }
 
-module _ (n : ℕ) (d : List ℕ) (rest : ℕ) where
-  pub fill-left : (from : ℕ) → Filling n d from rest → 10 ≤ rest → 0 < from
-  fill-left zero f h = absurd (omega (arith, f .room))
-  fill-left (suc i) f h = omega arith
+module _ {n : ℕ} {d : List ℕ} {rest : ℕ} where
+  pub fill-left : {from : ℕ} → Filling n d from rest → 10 ≤ rest → 0 < from
+  fill-left {from = zero} f h = absurd (omega (arith, f .room))
+  fill-left {from = suc i} f h = omega arith
 
-  pub fill-next : (from : ℕ) (v : ℕ) → Filling n d from rest → 10 ≤ rest → v ≡ 48 + rest % 10
+  pub fill-next : {from v : ℕ} → Filling n d from rest → 10 ≤ rest → v ≡ 48 + rest % 10
       → Filling n (set d from v) (from - 1) (rest / 10)
-  fill-next zero v f h e = absurd (omega (arith, f .room))
-  fill-next (suc i) v f h e =
+  fill-next {from = zero} f h e = absurd (omega (arith, f .room))
+  fill-next {from = suc i} {v} f h e =
       let z : suc i - 1 ≡ i = omega arith in
       rw z (record {
         size = length-set d (suc i) v ∙ f .size;

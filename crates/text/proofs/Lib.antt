@@ -1,3 +1,4 @@
 pub mod Decimal
 pub mod Places
 pub mod Filling
+pub mod Results

@@ -65,7 +65,7 @@ pub record Putting (out₀ : List ℕ) (at : ℕ) (s out : List ℕ) (i : ℕ) :
   pub same : length out ≡ length out₀
   pub so-far : out ≡ paste out₀ at s i
 
-module _ (out₀ : List ℕ) (at : ℕ) (s : List ℕ) where
+module _ {out₀ : List ℕ} {at : ℕ} {s : List ℕ} where
   pub put-begins : at + length s ≤ length out₀ → Putting out₀ at s out₀ 0
   put-begins h = record { few = omega arith; room = h; same = search; so-far = paste-zero out₀ at s }
 

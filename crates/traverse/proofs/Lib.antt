@@ -1,2 +1,4 @@
 pub mod Scanning
 pub mod Traversing
+pub mod Saying
+pub mod Results

@@ -1,2 +1,3 @@
 pub mod Traversal
 pub mod Scans
+pub mod Said

@@ -13,6 +13,8 @@ use types::refusal::LIST_SIZE;
 use types::refusal::Refusal;
 use types::refusal::TOO_LARGE;
 ghost use mathlib.Core.Path.{_≡_};
+ghost use Rattle.traverse.specs.Said.{traversalSaid};
+ghost use Rattle.types.specs.Said.{Answers};
 ghost use Prim.Native.Nat.{_-_};
 ghost use lib.ListN.{length};
 ghost use Rattle.types.specs.Refusals.{refusal};
@@ -92,7 +94,7 @@ fn opened(chain: &[u8], list: &[u8], f: File) -> Traversal
 
 // Verifies the one file of a chain and says what its commits add up to.
 pub fn traverse(chain: &[u8], list: &[u8]) -> Traversal
-    ensures { λ r. ⌜ r ≡ traversal 32 (now (chain .entry)) (now (list .entry)) ⌝ }
+    ensures { λ r. ⌜ Answers traversalSaid r (traversal 32 (now (chain .entry)) (now (list .entry))) ⌝ }
 {
     let m = one(list, chain.len());
     if 0 < m.number {

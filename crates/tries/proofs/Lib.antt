@@ -1,1 +1,2 @@
 pub mod Trials
+pub mod Results

@@ -6,7 +6,9 @@ use types::file::Position;
 use types::refusal;
 ghost use mathlib.Core.Path.{_≡_};
 ghost use Prim.Native.Nat.{_<_};
+ghost use Rattle.types.specs.Said.{Answers};
 ghost use Rattle.ancestry.specs.Counts.{keyOf};
+ghost use Rattle.commit.specs.Said.{askedSaid};
 ghost use Rattle.tries.specs.Tries.{rowIn, stoppedBy};
 
 // How a commit went: a refusal or 0, how many parents, its generation.
@@ -36,7 +38,7 @@ pub fn key(n: usize) -> usize
 
 // Refusals 64 to 67 of entry `c` of the chunks OIDF, OIDL and CDAT, by their own parts; else its row.
 pub fn row_in(fan: &[u8], ids: &[u8], rows: &[u8], w: usize, c: u32) -> Asked
-    ensures { λ r. ⌜ r ≡ rowIn w (now (fan .entry)) (now (ids .entry)) (now (rows .entry)) c ⌝ }
+    ensures { λ r. ⌜ Answers askedSaid r (rowIn w (now (fan .entry)) (now (ids .entry)) (now (rows .entry)) c) ⌝ }
 {
     let m = entry_in(fan, ids, rows, w, c);
     if 0 < m {

@@ -6,9 +6,7 @@ use mathlib.Core.Path.{_≡_, refl, sym, ap, subst, _∙_}
 use mathlib.Core.Logic.{⊎-elim}
 use native.Mathlib.Omega.{arith}
 use native.Mathlib.Nat.{eq-or-lt-of-le, le-refl}
-use native.Mathlib.Numerals.{add-one}
 use lib.Dec.{ltb, lit<}
-use lib.ListN.{length}
 use borrow.Author.Tests.{le-ltb, lt-leb, ltb-true, ltb-false, leb-false, eqb-true, not-false}
 use Rattle.types.specs.declared.refusal.Refusal.{Refusal}
 use Rattle.words.specs.First.{_if_else_, first, refuse}
@@ -16,18 +14,18 @@ use Rattle.words.proofs.Rows.{miss, pass, eq-not, refuse-none}
 use Rattle.words.proofs.Searches.{first-hit, first-none}
 use Rattle.list.specs.List.{recordsOf}
 use Rattle.file.specs.declared.File.{File}
-use Rattle.file.specs.declared.Opening.{Opening}
-use Rattle.file.specs.declared.Opening.the-variants.{Open, Refused as Shut}
+use Rattle.file.specs.declared.Opening.the-variants.{Open}
 use Rattle.steps.specs.Walks.{Walked, ends, parent, positions, endOf}
 use Rattle.parents.specs.Walks.{walkOf}
 use Rattle.rules.proofs.Entries.{or-miss, or-none, entry-sound, entry-whole}
 use Rattle.rules.proofs.Trailers.{sum-sound, sum-whole, name-sound, name-whole}
-use Rattle.graph.specs.Chain.{commitsOf, widthIn, partAt, openAt, countAt, firstAt, commitsIn, openFrom, opened, Listed}
-use Rattle.graph.proofs.Passing.{Along, along-begins, along-refused, along-next}
-use Rattle.graph.proofs.Views.{numbers, opened-halves, opened-listed}
+use Rattle.graph.specs.Chain.{widthIn, partAt, openAt, countAt, firstAt, commitsIn, opened}
+use Rattle.graph.proofs.Passing.{count-open, each-open, few-positions}
+use Rattle.graph.proofs.Views.{opened-halves, opened-listed}
 use Rattle.walk.specs.Lists.{walkIn}
 use Rattle.audit.specs.Files.{basesIn, baseIn, genIn, entryAt, genAt}
-use Rattle.audit.specs.Rules.{walkRule, alien, badBase, baseRule, headRule, genRule, commitRule, bad, badCommit, commitRules, accepted, refusedBy, verifyFrom, verification, notSound}
+use Rattle.audit.specs.Rules.{walkRule, alien, badBase, baseRule, headRule, genRule, commitRule, bad, badCommit, commitRules}
+use Rattle.audit.specs.Rules.{accepted, refusedBy, verifyFrom, verification, notSound}
 use Rattle.verify.specs.Facts.{SoundCommit, SoundFile, Sound}
 use Rattle.audit.specs.declared.Summary.{Summary}
 use Rattle.audit.specs.declared.Verdict.the-variants.{Accepted, Refused}
@@ -91,42 +89,12 @@ refuse-accepted (suc n) i place rest e = let y : _≡_ {A = ℕ} 0 1 = cc in abs
 -- ── the opening: each file opens, and its commits are few ──
 
 module _ (z : ℕ) (c l : List ℕ) where
-  module _ {n : ℕ} (d : Listed z c l n) (y : openFrom z c l 0 n .number ≡ 0) where
-    open-next : {k : ℕ} (at sum : ℕ) → Along z c l n k at sum → k < n → (f : File) × (openAt z c l k ≡ Open f)
-    open-next {k} at sum p h = go (openAt z c l k) refl
-      where
-        go : (o : Opening) → openAt z c l k ≡ o → (f : File) × (openAt z c l k ≡ Open f)
-        go (Open f) e = (f, e)
-        go (Shut q) e = let w = along-refused z c l d at sum p h q e in absurd (omega (arith, numbers (w .0)))
-
-    along : (k : ℕ) → k ≤ n → (at : ℕ) × (sum : ℕ) × Along z c l n k at sum
-    along zero h = (0, 0, along-begins z c l d)
-    along (suc k) h =
-        let (at, sum, p) = along k (omega arith) in
-        let (f, e) = open-next at sum p h in (
-          at + length (partAt z c l k),
-          sum + f .commits,
-          subst (λ (i : ℕ). Along z c l n i (at + length (partAt z c l k)) (sum + f .commits)) (add-one k)
-              (along-next z c l d at sum p h f e _ refl),
-        )
-
   module _ (y : opened z c l .number ≡ 0) where
-    pub listed : Listed z c l (recordsOf z l)
-    listed = opened-listed z c l y
-
-    opens : openFrom z c l 0 (recordsOf z l) .number ≡ 0
-    opens = opened-halves z c l y .1
-
     pub all-open : (k : ℕ) → k < recordsOf z l → (f : File) × (openAt z c l k ≡ Open f)
-    all-open k h =
-        let (at, sum, p) = along listed opens k (omega arith) in
-        open-next listed opens at sum p h
+    all-open k h = each-open z c l (recordsOf z l) 0 (opened-halves z c l y .1) k (omega arith) (omega arith)
 
-    -- 36 bytes a commit, in at most 1 GiB
     pub commits-few : commitsIn z c l * 36 ≤ 1073741824
-    commits-few =
-        let (at, sum, p) = along listed opens (recordsOf z l) (le-refl _) in
-        omega (arith, p .small, p .place, p .total, listed .files, listed .most)
+    commits-few = few-positions z c l (opened-listed z c l y) (recordsOf z l) (le-refl _)
 
   -- ── file i, with the record f ──
 
@@ -153,10 +121,6 @@ module _ (z : ℕ) (c l : List ℕ) where
         ∙ sym (miss 69 _ 0 0 (eq-not _ _ (s .right)) refl)
         )
 
-    counts : countAt z c l i ≡ f .commits
-    unfolding countAt commitsOf
-    counts = rw e
-
     pub file-sound : headRule z c l i ≡ 0 → commitRules z c l i ≡ 0 → SoundFile z c l i (partAt z c l i) f
     unfolding headRule baseRule badBase alien commitRules badCommit bad basesIn baseIn widthIn
     file-sound h q =
@@ -170,7 +134,7 @@ module _ (z : ℕ) (c l : List ℕ) where
           sum = sum-sound (f .width) (partAt z c l i) (rw e at (p2 .0));
           name = name-sound (f .width) z l i (partAt z c l i) (rw e at (p2 .1));
           commit = λ k g. commit-sound k
-              (rules-all (commitRule z c l i) (bad z c l i) (λ j. refl) (countAt z c l i) q k (omega (arith, counts)));
+              (rules-all (commitRule z c l i) (bad z c l i) (λ j. refl) (countAt z c l i) q k (omega (arith, count-open z c l i e)));
         }
 
     pub head-whole : SoundFile z c l i (partAt z c l i) f → headRule z c l i ≡ 0
@@ -186,7 +150,7 @@ module _ (z : ℕ) (c l : List ℕ) where
     unfolding commitRules badCommit bad
     commits-whole s =
         all-rules (commitRule z c l i) (bad z c l i) (λ j. refl) (countAt z c l i)
-        (λ k g. commit-whole (s .commit k (omega (arith, counts))))
+        (λ k g. commit-whole (s .commit k (omega (arith, count-open z c l i e))))
 
   -- ── the chain ──
 

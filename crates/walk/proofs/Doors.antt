@@ -1,4 +1,5 @@
--- What the two proofs of the walk's second door share: the names of a walk by hand, the values of its three types, and two lent slices that are passed on and kept.
+-- What the two proofs of the walk's second door share: the names of a walk by hand, the values of its three types, how a local is read and freed,
+-- and two lent slices that are passed on and kept.
 pub use mathlib.Core.Path.{_≡_, refl, ap}
 pub use Prim.Native.Nat.{ℕ}
 pub use mathlib.Core.List.{[], _∷_, List}
@@ -14,36 +15,42 @@ pub use prog.Wp.{Heap, Calls, Loops, WpFn, Tables}
 pub use ghost.Atoms.{Atoms, sem}
 pub use contract.Monad.{Fun, fact}
 pub use contract.Running.{givenOf, tables}
-pub use types.Kit.{Given, Item, ‵, raw, _⊛_, ⋆, some, later, _$_, _∵_, !, qed, by, move, keep, drop, use1, use3, split, join, pick, rewrite, fsplit, fjoin, suffices, frame, await, done}
-pub use types.Run.{look, init, forget, stop, from, load, of-opd, and-then, no-more, assigns, land, returns, enter, alloc1, alloc0, params1, pass1, pass0, free1, free0}
+pub use types.Kit.{Given, Item, ‵, raw, _⊛_, ⋆, some, later, _$_, _∵_, !, qed, by, move, keep, drop, use1, use3, split, join, pick, rewrite, fsplit, fjoin}
+pub use types.Kit.{suffices, frame, await, done}
+pub use types.Run.{look, init, stop, from, load, of-opd, and-then, no-more, assigns, land, returns, enter, alloc1, alloc0, params1, pass1, pass0, free0}
 pub use types.SemTy.{Body}
 pub use sound.WpLaws.{FmC, fmOf, WpFn-mono}
 pub use denote.Laws.{Is, shows}
 pub use denote.Memory.{mem}
 pub use denote.Builtin.{u8}
 pub use denote.Ref.{RefT, MutRef, now}
-pub use denote.Slice.{ShrSlice, slice-vals, shr-slice-tells, shr-slice-lawful}
+pub use denote.Slice.{ShrSlice, slice-vals, shr-slice-tells}
 pub use denote.Signature.{plain}
 pub use denote.Steps.{only, peeks, heard}
-pub use denote.Struct.Steps.{spelt}
 pub use denote.Triple.Statement.{Contract, Triple}
 pub use denote.Triple.Call.{calls-at}
 pub use denote.Triple.Clauses.{ensured, lasts}
 pub use denote.Triple.Entry.{onEntry}
 pub use denote.Triple.Spec.{Meets, tripleOf}
 pub use denote.Triple.Table.{entered, cited}
-pub use denote.Triple.Walked.{says, Stays, stay-none-slice, walkOf, goes-none-slice, Walks, ends-at, walked, walk-meets}
+pub use denote.Triple.Walked.{says, Stays, stay-none-slice, walkOf, goes-none-slice, ends-at, walked, walk-meets}
 pub use denote.Exit.{yes}
 pub use Rattle.walk.specs.Walks.{stepOf}
 pub use Rattle.walk.specs.declared.Walk.{Walk}
 pub use Rattle.walk.specs.declared.Step.{Step}
 pub use Rattle.parents.specs.declared.Answer.{Answer}
+use Prim.Native.Nat.{suc}
+use types.Run.{forget, free1, Opd}
+use denote.Slice.{shr-slice-lawful, shr-slice-copy}
+use denote.Struct.Steps.{spelt}
 use base.Logic.{sep}
-use base.Fml.{ftrue, fat}
-use types.Kit.{Goal, Step as Then, use2}
+use base.Fml.{ftrue, fat, fdies}
+use types.Kit.{Goal, Seq, Step as Then, step, use2, nth, del, frees as freeing}
+use mir.Syntax.{Ty, place, copy}
+use prog.Wp.{Env, spotOf}
+use denote.Memory.{cellAt}
 use denote.RattleType.{RattleType}
 use denote.Laws.{Typed}
-use denote.Slice.{shr-slice-copy}
 use denote.Steps.{owned, nothing}
 use denote.Struct.Laws as LL
 use denote.Enum.Laws as EL
@@ -113,6 +120,10 @@ module _ {M : Type 1} {𝓤 : URA M} {H : Heap 𝓤} {A : Atoms 𝓤} (W : Given
   pub answer-typed : (a : Answer) (vs : List Val) → Is answerT a vs → Typed (answerT .mir) vs
   answer-typed = EL.lawful R′.the-type RL.the-laws 𝓤 H A W tt .typed
 
+  pub slice-typed : (n : ℕ) (κ : Lft) (s : RefT (List ℕ)) → Is (ShrSlice (named n) κ u8) s (slice-vals s)
+      → Typed (ShrSlice (named n) κ u8 .mir) (slice-vals s)
+  slice-typed n κ s = shr-slice-lawful 𝓤 H A W (named n) κ u8 .typed s _
+
 -- what a value owns is had for nothing
 module _ {M : Type 1} {𝓤 : URA M} {H : Heap 𝓤} {A : Atoms 𝓤} {K : Type 0} {W : Given 𝓤 H A} {Γ : List (Item 𝓤)} {G : Goal 𝓤 H} where
   pub own-walk : K → (w : Walk) (vs : List Val) → Is walkT w vs → Then K W (‵ (walkT .own w vs) ∷ Γ) G Γ G
@@ -123,6 +134,26 @@ module _ {M : Type 1} {𝓤 : URA M} {H : Heap 𝓤} {A : Atoms 𝓤} {K : Type 
 
   pub own-answer : K → (a : Answer) (vs : List Val) → Is answerT a vs → Then K W (‵ (answerT .own a vs) ∷ Γ) G Γ G
   own-answer t = owned t answerT (Is answerT) (EL.makes R′.the-type RL.the-plain 𝓤 H A)
+
+  -- a walk that lies at b and o is its one machine value, and a value of its type
+  pub spelled : K → (w : Walk) (vs : List Val) (b o : ℕ)
+      → (Is walkT w (walkV w ∷ []) → Seq K W (‵ (walkT .own w (walkV w ∷ [])) ∷ ‵ (cellAt fullShare (walkT .mir) (walkV w ∷ []) b o) ∷ Γ) G)
+      → Seq K W (‵ (cellAt fullShare (walkT .mir) vs b o) ∷ ‵ (walkT .own w vs) ∷ Γ) G
+  spelled t w vs b o k =
+      spelt t walkT (Is walkT) (shows 𝓤 H A walkT) (λ y. walkV y ∷ []) walk-tells fullShare w vs b o $ move t (1 ∷ []) $
+      peeks t walkT (Is walkT) (shows 𝓤 H A walkT) w (walkV w ∷ []) k
+
+-- a local is read, and a local is freed: entry n of the context is its cell, and of the others entry n says that it dies
+module _ {M : Type 1} {𝓤 : URA M} {H : Heap 𝓤} {A : Atoms 𝓤} {K : Type 0} {W : Given 𝓤 H A} {Γ : List (Item 𝓤)} {E : Env 𝓤 H} where
+  pub reads : K → (n : ℕ) {i : ℕ} {q : Share} {v : Val}
+      → nth 𝓤 H A n Γ ≡ ‵ (fat q (spotOf 𝓤 H E i .0) (spotOf 𝓤 H E i .1) 0 v) → Opd K W Γ E (copy (place i [])) v
+  reads t n e = load t (from t (stop t)) (look t n e)
+
+  pub frees : K → (n : ℕ) {τ : Ty} {b : ℕ} {v : Val} {g : Goal 𝓤 H} → nth 𝓤 H A n Γ ≡ ‵ (fat fullShare τ b 0 v)
+      → nth 𝓤 H A n (del 𝓤 H A n Γ) ≡ ‵ (fdies τ b) → Then K W (del 𝓤 H A n (del 𝓤 H A n Γ)) (freeing E g) Γ (freeing ((τ, b) ∷ E) g)
+  frees t n e d =
+      step (λ s. move t (n ∷ []) $ rewrite t 0 (λ (i : Item 𝓤). i) e refl $ forget t 0 refl $
+      move t (suc n ∷ []) $ rewrite t 0 (λ (i : Item 𝓤). i) d refl $ move t (1 ∷ []) $ free1 t $ s)
 
 -- what a lent slice owns, whatever its lifetime is called; of two, with their tokens
 abbrev lent : Lft → RefT (List ℕ) → Fml

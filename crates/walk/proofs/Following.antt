@@ -38,6 +38,10 @@ use Rattle.walk.specs.declared.Step.{Step}
 use Rattle.graph.proofs.Standing.{stands, asked-below}
 use Rattle.walk.proofs.Steps.{step-refused}
 
+-- two answers that differ are never one
+no : _≡_ {A = ℕ} 0 1 → ⊥
+no e = omega arith
+
 -- ── one step ──
 
 answer-told : (k : ℕ) (a : Answer) (s : Phase) → Told a s → Told (answerIn k a) s
@@ -92,67 +96,67 @@ module _ (z : ℕ) (c l : List ℕ) where
   -- two followings of one walk are the same
   pub follows-same : {w : Walk} {ps qs : List ℕ} {e d : ℕ} → Follows z c l w ps e → Follows z c l w qs d → (ps ≡ qs) × (e ≡ d)
   follows-same (ends a) (ends b) = (refl, refl)
-  follows-same (ends a) (stops b) = let y : _≡_ {A = ℕ} 0 1 = cc in absurd (omega arith)
-  follows-same (ends a) (goes b y) = let y : _≡_ {A = ℕ} 0 1 = cc in absurd (omega arith)
-  follows-same (stops a) (ends b) = let y : _≡_ {A = ℕ} 0 1 = cc in absurd (omega arith)
+  follows-same (ends a) (stops b) = (cc, cc)
+  follows-same (ends a) (goes b y) = (cc, cc)
+  follows-same (stops a) (ends b) = (cc, cc)
   follows-same (stops a) (stops b) = (refl, cc)
-  follows-same (stops a) (goes b y) = let y : _≡_ {A = ℕ} 0 1 = cc in absurd (omega arith)
-  follows-same (goes a x) (ends b) = let y : _≡_ {A = ℕ} 0 1 = cc in absurd (omega arith)
-  follows-same (goes a x) (stops b) = let y : _≡_ {A = ℕ} 0 1 = cc in absurd (omega arith)
+  follows-same (stops a) (goes b y) = (cc, cc)
+  follows-same (goes a x) (ends b) = (cc, cc)
+  follows-same (goes a x) (stops b) = (cc, cc)
   follows-same (goes a x) (goes b y) = let h = follows-same x y in (cc, h .1)
 
   module _ (g : ℕ) (a : asked z c l g .number ≡ 0) (f : File) (o : openAt z c l (fileOf z c l g) ≡ Open f) where
-    below : posOf z c l g < f .commits
+    -- the file's index, its bytes, and the commit's position there
+    abbrev k : ℕ
+    k = fileOf z c l g
+
+    abbrev p : List ℕ
+    p = partAt z c l k
+
+    abbrev i : ℕ
+    i = posOf z c l g
+
+    below : i < f .commits
     unfolding countAt commitsOf
     below = rw o at (stands z c l .pos g (asked-below z c l g a))
 
-    plain : askRule (partAt z c l (fileOf z c l g)) f (f .commits) (posOf z c l g) ≡ 0
+    plain : askRule p f (f .commits) i ≡ 0
     unfolding openAt
-    plain =
-        asked-plain _ f (f .commits) (posOf z c l g)
-        (opened-fits (file-opened true _ o)) below
+    plain = asked-plain _ f (f .commits) i (opened-fits (file-opened true _ o)) below
 
     next : Phase → Next
-    next s =
-        nextOf (rowOf (partAt z c l (fileOf z c l g)) f (posOf z c l g) .first)
-        (rowOf (partAt z c l (fileOf z c l g)) f (posOf z c l g) .second) (not (absent (f .edge)))
-        (edgePart (partAt z c l (fileOf z c l g)) f) s
+    next s = nextOf (rowOf p f i .first) (rowOf p f i .second) (not (absent (f .edge))) (edgePart p f) s
 
     left : Phase → Walked
-    left s = restAt (partAt z c l (fileOf z c l g)) f (posOf z c l g) s
+    left s = restAt p f i s
 
     step-is : (s : Phase) → stepOf z c l (walkAt g s)
-        ≡ (record { answer = answerIn (fileOf z c l g) (answerOf (posOf z c l g) (next s .met)); next = walkAt g (next s .phase) })
+        ≡ (record { answer = answerIn k (answerOf i (next s .met)); next = walkAt g (next s .phase) })
     unfolding stepOf _if_else_ stepBy next
-    step-is s =
-        rw (
-          le-ltb 0 (asked z c l g .number) (omega arith),
-          o,
-          ← step-plain _ f (posOf z c l g) s plain,
-        )
+    step-is s = rw (le-ltb 0 (asked z c l g .number) (omega arith), o, ← step-plain _ f i s plain)
 
     answer-is : (s : Phase) {m : Met} → next s .met ≡ m
-        → stepOf z c l (walkAt g s) .answer ≡ answerIn (fileOf z c l g) (answerOf (posOf z c l g) m)
-    answer-is s e = ap (λ (x : Step). x .answer) (step-is s) ∙ ap (λ (y : Met). answerIn (fileOf z c l g) (answerOf (posOf z c l g) y)) e
+        → stepOf z c l (walkAt g s) .answer ≡ answerIn k (answerOf i m)
+    answer-is s e = ap (λ (x : Step). x .answer) (step-is s) ∙ ap (λ (y : Met). answerIn k (answerOf i y)) e
 
     -- a step that meets no parent, and one that meets one
     last : (r : ℕ) (s : Phase) (m : Met) → next s .met ≡ m → over r ≡ followMet m (left (next s .phase)) → Follows z c l (walkAt g s) [] r
     unfolding followMet answerIn answerOf
-    last r s (Meets q) e d = let y : _≡_ {A = ℕ} 0 1 = cc in absurd (omega arith)
+    last r s (Meets q) e d = absurd (no (cc))
     last r s (MeetsNo n) e d = let y : r ≡ n = cc in rw y (stops (answer-is s e))
     last r s MeetsEnd e d = let y : r ≡ 0 = cc in rw y (ends (answer-is s e))
 
-    more : (p : ℕ) (w : Walked) (s : Phase) (m : Met) → next s .met ≡ m → parent p w ≡ followMet m (left (next s .phase))
+    more : (q : ℕ) (w : Walked) (s : Phase) (m : Met) → next s .met ≡ m → parent q w ≡ followMet m (left (next s .phase))
         → ((t : Phase) → left t ≡ w → Follows z c l (walkAt g t) (positions w) (endOf w))
-        → Follows z c l (walkAt g s) (p ∷ positions w) (endOf w)
+        → Follows z c l (walkAt g s) (q ∷ positions w) (endOf w)
     unfolding followMet answerIn answerOf
-    more p w s (Meets q) e d rest =
-        let y : p ≡ q .position .0 = cc in
+    more q w s (Meets r) e d rest =
+        let y : q ≡ r .position .0 = cc in
         let v : left (next s .phase) ≡ w = cc in
         rw y (goes (answer-is s e)
         (subst (λ (x : Step). Follows z c l (x .next) (positions w) (endOf w)) (sym (step-is s)) (rest (next s .phase) v)))
-    more p w s (MeetsNo n) e d rest = let y : _≡_ {A = ℕ} 0 1 = cc in absurd (omega arith)
-    more p w s MeetsEnd e d rest = let y : _≡_ {A = ℕ} 0 1 = cc in absurd (omega arith)
+    more q w s (MeetsNo n) e d rest = absurd (no (cc))
+    more q w s MeetsEnd e d rest = absurd (no (cc))
 
     left-follow : (s : Phase) → left s ≡ followMet (next s .met) (left (next s .phase))
     unfolding next left
@@ -161,7 +165,7 @@ module _ (z : ℕ) (c l : List ℕ) where
     along : (w : Walked) (s : Phase) → left s ≡ w → Follows z c l (walkAt g s) (positions w) (endOf w)
     unfolding positions endOf
     along (over r) s e = last r s (next s .met) refl (sym e ∙ left-follow s)
-    along (parent p w) s e = more p w s (next s .met) refl (sym e ∙ left-follow s) (along w)
+    along (parent q w) s e = more q w s (next s .met) refl (sym e ∙ left-follow s) (along w)
 
     pub lists : Lists z c l g f
     unfolding left walkOf restOf walkedAt walkIn
@@ -169,10 +173,12 @@ module _ (z : ℕ) (c l : List ℕ) where
 
   pub ends-once : (w : Walk) → Ends z c l w
   ends-once w =
-      ⊎-elim (λ (h : asked z c l (w .commit .0) .number ≤ 0). let a : asked z c l (w .commit .0) .number ≡ 0 = omega arith in
-      let o = stands z c l .opens (w .commit .0) (asked-below z c l (w .commit .0) a) in
-      let y = lists (w .commit .0) a (o .0) (o .1) .rest (w .phase) in
-      record { parents = _; last = _; follows = y; only = λ ps e x. follows-same x y })
-      (λ (h : 0 < asked z c l (w .commit .0) .number). let y : Follows z c l w [] (asked z c l (w .commit .0) .number) =
-      stops (ap (λ (x : Step). x .answer) (sym (step-refused z c l w refl h))) in
-      record { parents = _; last = _; follows = y; only = λ ps e x. follows-same x y }) (le-or-lt _ 0)
+      ⊎-elim (λ (h : asked z c l g .number ≤ 0). let a : asked z c l g .number ≡ 0 = omega arith in
+      let o = stands z c l .opens g (asked-below z c l g a) in once (lists g a (o .0) (o .1) .rest (w .phase)))
+      (λ (h : 0 < asked z c l g .number). once (stops (ap (λ (x : Step). x .answer) (sym (step-refused z c l w refl h))))) (le-or-lt _ 0)
+    where
+      g : ℕ
+      g = w .commit .0
+
+      once : {ps : List ℕ} {e : ℕ} → Follows z c l w ps e → Ends z c l w
+      once y = record { parents = _; last = _; follows = y; only = λ ps e x. follows-same x y }

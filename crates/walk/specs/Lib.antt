@@ -1,3 +1,4 @@
 pub mod Walks
 pub mod Lists
 pub mod Theorems
+pub mod Said

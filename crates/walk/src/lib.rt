@@ -10,6 +10,9 @@ use steps::Phase;
 use types::graph::Position;
 use words::part::part;
 ghost use mathlib.Core.Path.{_≡_};
+ghost use Rattle.parents.specs.Said.{answerSaid};
+ghost use Rattle.walk.specs.Said.{stepSaid};
+ghost use Rattle.types.specs.Said.{Answers};
 ghost use Rattle.walk.specs.Walks.{answerIn, stepOf};
 
 pub struct Walk {
@@ -36,7 +39,7 @@ fn in_file(k: u32, a: Answer) -> Answer
 impl Walk {
     // The next parent, a refusal or the end, and the walk after it. A refusal ends the walk.
     pub fn step(self, chain: &[u8], list: &[u8]) -> Step
-        ensures { λ r. ⌜ r ≡ stepOf 32 (now (chain .entry)) (now (list .entry)) self ⌝ }
+        ensures { λ r. ⌜ Answers stepSaid r (stepOf 32 (now (chain .entry)) (now (list .entry)) self) ⌝ }
     {
         let commit = self.commit;
         let phase = self.phase;
@@ -70,7 +73,7 @@ impl Walk {
 
 // The second door: the caller's walk is changed in place.
 pub fn next_parent(walk: &mut Walk, chain: &[u8], list: &[u8]) -> Answer
-    ensures { λ r. ⌜ (r ≡ stepOf 32 (now (chain .entry)) (now (list .entry)) (now (walk .entry)) .answer)
+    ensures { λ r. ⌜ (Answers answerSaid r (stepOf 32 (now (chain .entry)) (now (list .entry)) (now (walk .entry)) .answer))
         × (now (walk .exit) ≡ stepOf 32 (now (chain .entry)) (now (list .entry)) (now (walk .entry)) .next) ⌝ }
 {
     let w = *walk;
@@ -81,7 +84,7 @@ pub fn next_parent(walk: &mut Walk, chain: &[u8], list: &[u8]) -> Answer
 
 // A caller of the second door with plain parameters: the walk is kept in a local, and lent.
 pub fn through_door(from: Walk, chain: &[u8], list: &[u8]) -> Step
-    ensures { λ r. ⌜ r ≡ stepOf 32 (now (chain .entry)) (now (list .entry)) from ⌝ }
+    ensures { λ r. ⌜ Answers stepSaid r (stepOf 32 (now (chain .entry)) (now (list .entry)) from) ⌝ }
 {
     let mut w = from;
     let a = next_parent(&mut w, chain, list);

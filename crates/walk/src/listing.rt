@@ -7,6 +7,8 @@ use parents::listing;
 use types::graph::Position;
 use words::part::part;
 ghost use mathlib.Core.Path.{_≡_};
+ghost use Rattle.parents.specs.Said.{totalSaid};
+ghost use Rattle.types.specs.Said.{Answers};
 ghost use lib.ListN.{length};
 ghost use Rattle.walk.specs.Lists.{totalIn, listOf, heldOf};
 
@@ -22,7 +24,7 @@ fn in_file(k: u32, t: Total) -> Total
 
 // The parents of the commit at a position into `out`, and how many. Entries past the last stay; on refusal nothing is written.
 pub fn list_at(chain: &[u8], list: &[u8], pos: Position, out: &mut [u32]) -> Total
-    ensures answer { λ r. ⌜ r ≡ listOf 32 (now (chain .entry)) (now (list .entry)) (pos .0) (length (now (out .entry))) ⌝ }
+    ensures answer { λ r. ⌜ Answers totalSaid r (listOf 32 (now (chain .entry)) (now (list .entry)) (pos .0) (length (now (out .entry)))) ⌝ }
     ensures holds { λ r. ⌜ now (out .exit) ≡ heldOf 32 (now (chain .entry)) (now (list .entry)) (pos .0) (now (out .entry)) ⌝ }
 {
     match locate(chain, list, pos) {

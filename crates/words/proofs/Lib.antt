@@ -4,3 +4,5 @@ pub mod Rows
 pub mod Parts
 pub mod Fills
 pub mod Adds
+pub mod Determined
+pub mod Results

@@ -1,5 +1,5 @@
 -- Laws of big-endian numbers, each over the width.
-use Prim.Native.Nat.{ℕ, zero, suc, _+_, _-_, _*_, _/_, _%_, _^_, _≤_, _<_}
+use Prim.Native.Nat.{ℕ, zero, suc, _+_, _*_, _/_, _%_, _^_, _≤_, _<_}
 use mathlib.Core.List.{List, _∷_}
 use mathlib.Core.Path.{_≡_, refl, sym, ap, ap₂, _∙_}
 use native.Mathlib.Nat.{add-zero, add-suc, add-assoc, mul-one, mul-assoc, pow-zero, pow-suc, pow-succ', one-le-pow, mod-lt, eq-or-lt-of-le, le-of-suc-le-suc}
@@ -21,6 +21,10 @@ le-or-lt a b = go (leb a b) refl
     go : (t : Bool) → leb a b ≡ t → (a ≤ b) ⊎ (b < a)
     go true e = inl (leb-true a b e)
     go false e = inr (leb-false a b e)
+
+-- one number against another
+pub by-order : {X : Type 0} (a b : ℕ) → (a < b → X) → (a ≡ b → X) → (b < a → X) → X
+by-order a b below same above = ⊎-elim (λ (h : a ≤ b). ⊎-elim same below (eq-or-lt-of-le h)) above (le-or-lt a b)
 
 -- one byte more
 pub be-next : (l : List ℕ) (i n : ℕ) → be (n + 1) l i ≡ be n l i * 256 + getD l (i + n) 0

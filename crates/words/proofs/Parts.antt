@@ -49,7 +49,7 @@ part-number {s} {r} {k} {n} p h =
     rw l (ap (λ (x : List ℕ). be n x 0) (p .bytes) ∙ be-part n (s .now) k n 0 (omega arith) ∙ rw add-zero)
 
 -- records that lie within n bytes, and ones that do not
-module _ (n at count w : ℕ) where
+module _ {n at : ℕ} (count w : ℕ) where
   pub fits-none : n < at → false ≡ fits n at count w
   fits-none h = sym (lt-leb (at + count * w) n (omega arith))
 
@@ -71,10 +71,11 @@ module _ (n at count w : ℕ) where
           sym (lt-leb (at + count * w) n (omega arith))
 
 -- a cut by the records' own test: t is what the test said
-module _ (s : RefT (List ℕ)) (at count w : ℕ) {t : Bool} (e : t ≡ fits (length (s .now)) at count w) where
-  pub inside : t ≡ true → at + count * w ≤ length (s .now)
-  inside h = leb-true (at + count * w) (length (s .now)) (sym e ∙ h)
+pub inside : (s : RefT (List ℕ)) (at count w : ℕ) {t : Bool} → t ≡ fits (length (s .now)) at count w → t ≡ true
+    → at + count * w ≤ length (s .now)
+inside s at count w e h = leb-true (at + count * w) (length (s .now)) (sym e ∙ h)
 
+module _ {s : RefT (List ℕ)} (at count w : ℕ) {t : Bool} (e : t ≡ fits (length (s .now)) at count w) where
   pub cut : {r : RefT (List ℕ)} → t ≡ true → PartOf s at (count * w) r → RecordsOf s at count w r
   unfolding _if_else_
   cut h p = rw (sym e ∙ h) p

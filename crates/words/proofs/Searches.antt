@@ -5,7 +5,10 @@ use mathlib.Core.Path.{_≡_, refl, sym, _∙_}
 use mathlib.Core.Logic.{⊎-elim}
 use native.Mathlib.Omega.{arith}
 use native.Mathlib.Nat.{sub-zero, eq-or-lt-of-le}
-use Rattle.words.proofs.Numbers.{le-or-lt}
+use lib.Dec.{ltb}
+use borrow.Author.Tests.{lt-ltb, le-ltb}
+use Rattle.words.proofs.Numbers.{by-order}
+use Rattle.words.proofs.Rows.{eqb-via, neb-via}
 use Rattle.words.specs.First.{_if_else_, first}
 
 -- the loop stands at i, and what is left of the search answers as the whole does
@@ -27,6 +30,15 @@ module _ (p : ℕ → Bool) (n : ℕ) where
   pub first-ends : (i : ℕ) → first p 0 n ≡ first p i (n - i) → n ≤ i → i ≡ first p 0 n
   unfolding first
   first-ends i e h = let z : n - i ≡ 0 = omega arith in sym (e ∙ rw z)
+
+-- a test of b, by a number r that was read
+pub above-yes : (a b r : ℕ) → r ≡ b → a < r → ltb a b ≡ true
+above-yes a b r e h = lt-ltb a b (omega arith)
+
+pub above-no : (a b r : ℕ) → r ≡ b → r ≤ a → ltb a b ≡ false
+above-no a b r e h = le-ltb a b (omega arith)
+
+pub ruleset searching = (first-begins, first-stop, first-step, first-ends, above-yes, above-no, eqb-via, neb-via)
 
 -- what the answer says
 module _ (p : ℕ → Bool) where
@@ -71,14 +83,10 @@ module _ (p : ℕ → Bool) where
   -- the answer is known by where it stands
   pub first-is : (n k : ℕ) → k < n → p k ≡ true → ((j : ℕ) → j < k → p j ≡ false) → first p 0 n ≡ k
   first-is n k h t f =
-      ⊎-elim
-      (λ (g : first p 0 n ≤ k).
-      ⊎-elim
-      (λ (e : first p 0 n ≡ k). e)
-      (λ (l : first p 0 n < k). clash (first p 0 n) (first-hit 0 n (omega arith)) (f _ l))
-      (eq-or-lt-of-le g))
-      (λ (g : k < first p 0 n). clash k t (first-before 0 n k (omega arith) g))
-      (le-or-lt (first p 0 n) k)
+      by-order (first p 0 n) k
+      (λ l. clash (first p 0 n) (first-hit 0 n (omega arith)) (f _ l))
+      (λ e. e)
+      (λ g. clash k t (first-before 0 n k (omega arith) g))
     where
       clash : (i : ℕ) → p i ≡ true → p i ≡ false → first p 0 n ≡ k
       clash i a b = let z : _≡_ {A = Bool} true false = sym a ∙ b in let y : _≡_ {A = ℕ} 0 1 = cc in absurd (omega arith)

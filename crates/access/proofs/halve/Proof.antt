@@ -1,5 +1,6 @@
--- `access::halve` meets its contract.
-use denote.Ref.{now}
+-- `access::halve` meets its contract. The invariant: hi ≤ to, and halving from `lo` to `hi` answers as halving from `from` to `to` does.
+-- The measure is hi - lo. Each turn goes below the middle, stops there or goes above it (`turn-less`, `turn-equal`, `turn-greater`); where lo < hi
+-- fails nothing is left (`halving-none`).
 use Prim.Native.Nat.{_+_, _-_, _/_, _^_, _≤_, _<_}
 use mathlib.Core.Path.{_≡_, refl, sym, _∙_}
 use native.Mathlib.Omega.{arith}
@@ -24,49 +25,35 @@ loop-holds c = (omega arith, refl)
 
 mul-compare : tie.Need-mul-compare Inv-loop μ-loop
 mul-compare c =
-    let start = c .before .before .before .before in
-    omega (
-      arith,
-      small-product _ _ (let m : c .before .loop .lo + (c .before .loop .hi - c .before .loop .lo) / 2 < 2 ^ 32 = omega arith in m)
-          (start .pre),
-    )
+    let l = c .before .loop in
+    let m : l .lo + (l .hi - l .lo) / 2 < 2 ^ 32 = omega arith in
+    omega (arith, small-product _ _ m (c .before .before .before .before .pre))
 
 loop-again : tie.Need-loop-again Inv-loop μ-loop
 unfolding keyOf
 loop-again c =
-    let at-loop-test = c .before .before .before in
-    let start = at-loop-test .before .before .before .before in
-    let ids = now (start .args .ids) in
-    let x = now (start .args .x) in (
+    let turn = c .before .before .before in (
       omega arith,
-      turn-less _ _ _ _ _ (at-loop-test .before .loop .inv .1) (at-loop-test .loop-test .taken) refl
-          (c .before .before .compare .ensures) (c .enum-told .given .1),
+      turn-less _ _ (turn .before .loop .inv .1) (turn .loop-test .taken) refl (c .before .before .compare .ensures .is) (c .enum-told .given .1),
     )
 
 returns : tie.Need-returns Inv-loop μ-loop
 unfolding keyOf
 returns c =
-    let at-loop-test = c .before .before .before in
-    let start = at-loop-test .before .before .before .before in
-    let ids = now (start .args .ids) in
-    let x = now (start .args .x) in
-    sym (turn-equal _ _ _ _ _ (at-loop-test .before .loop .inv .1) (at-loop-test .loop-test .taken) refl
-    (c .before .before .compare .ensures) (c .enum-told2 .given .1))
+    let turn = c .before .before .before in
+    sym (turn-equal _ _ (turn .before .loop .inv .1) (turn .loop-test .taken) refl
+    (c .before .before .compare .ensures .is) (c .enum-told2 .given .1))
 
 loop-again-2 : tie.Need-loop-again-2 Inv-loop μ-loop
 unfolding keyOf
 loop-again-2 c =
-    let at-loop-test = c .before .before .before in
-    let start = at-loop-test .before .before .before .before in
-    let ids = now (start .args .ids) in
-    let x = now (start .args .x) in (
+    let turn = c .before .before .before in (
       omega arith,
-      turn-greater _ _ _ _ _ (at-loop-test .before .loop .inv .1) (at-loop-test .loop-test .taken) refl
-          (c .before .before .compare .ensures) (c .enum-told3 .given .1),
+      turn-greater _ _ (turn .before .loop .inv .1) (turn .loop-test .taken) refl (c .before .before .compare .ensures .is) (c .enum-told3 .given .1),
     )
 
 returns-2 : tie.Need-returns-2 Inv-loop μ-loop
-returns-2 c = sym (c .before .loop .inv .1 ∙ halving-none _ _ _ _ (c .loop-test .left))
+returns-2 c = sym (c .before .loop .inv .1 ∙ halving-none _ _ (c .loop-test .left))
 
 pub halve-spec : {M : Type 1} → statement M
 halve-spec =

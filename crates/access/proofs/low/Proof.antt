@@ -1,4 +1,4 @@
--- `access::low` meets its contract.
+-- `access::low` meets its contract: by the two cases of `b`.
 use mathlib.Core.Path.{_∙_}
 use Rattle.access.proofs.Halving.{lower-zero, lower-is}
 use borrow.Author.Needs.{needs}

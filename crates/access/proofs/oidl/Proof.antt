@@ -1,4 +1,4 @@
--- `access::oidl` meets its contract.
+-- `access::oidl` meets its contract: a record that fits has the part inside the file (`records-in`).
 use Rattle.words.proofs.Parts.{records-in}
 use borrow.Author.Needs.{needs}
 use Rattle.access.proofs.oidl.Statement.{statement}

@@ -2,6 +2,7 @@
 use mathlib.Core.Path.{_≡_, refl, sym, _∙_}
 use native.Mathlib.Omega.{arith}
 use borrow.Author.Needs.{needs}
+use Rattle.types.proofs.Saying.{answers}
 use Rattle.list.specs.List.{recordsOf}
 use Rattle.graph.specs.Chain.{opened, Listed}
 use Rattle.graph.proofs.Views.{list-listed, opened-list, opened-pass}
@@ -25,12 +26,12 @@ goes c =
 
 returns : tie.Need-returns
 returns c =
-    (c .refused .ensures
+    answers (c .refused .ensures
     ∙ verify-refused 32 _ _ (opened-list 32 _ _ (c .before .before .before .check .ensures) (c .before .if1 .taken)) (c .before .if1 .taken))
 
 returns-2 : tie.Need-returns-2
 returns-2 c =
-    (c .refused2 .ensures ∙ verify-refused 32 _ _ (goes (c .before .before .before .before)) (c .before .if2 .taken))
+    answers (c .refused2 .ensures ∙ verify-refused 32 _ _ (goes (c .before .before .before .before)) (c .before .if2 .taken))
 
 -- the table is right
 right : (c : tie.Else2)
@@ -41,7 +42,7 @@ right c = c .before .before .before .survey .ensures .tables (omega arith)
 returns-3 : tie.Need-returns-3
 returns-3 c =
     let none = c .before .before .before in
-    verify-files 32 _ _ (goes (none .before .before .before)) (none .if2 .left) (c .verify-from .ensures)
+    answers (verify-files 32 _ _ (goes (none .before .before .before)) (none .if2 .left) (c .verify-from .ensures))
 
 pub audit-spec : {M : Type 1} → statement M
 audit-spec =

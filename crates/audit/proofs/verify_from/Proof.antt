@@ -9,9 +9,9 @@ use lib.ListN.{length, getD}
 use Rattle.list.specs.List.{recordsOf}
 use Rattle.file.specs.declared.Opening.{Opening}
 use Rattle.graph.specs.Chain.{partAt, openAt}
-use Rattle.graph.proofs.Passing.{open-is, part-is}
+use Rattle.graph.proofs.Passing.{few-positions, open-is, part-is}
 use Rattle.audit.specs.Scans.{startIn, ScannedAs}
-use Rattle.audit.proofs.Tabling.{part-by, row-room, few-positions}
+use Rattle.audit.proofs.Tabling.{part-by, row-room}
 use Rattle.audit.proofs.Filing.{table-length, no-refusal, Filing, filing-begins, filing-head, filing-commit, filing-next, filing-ends}
 use Rattle.audit.proofs.verify_from.Statement.{statement}
 use Rattle.audit.proofs.verify_from.Tie as tie
@@ -49,7 +49,7 @@ cut c =
 file-i : (c : tie.After-open Inv-loop μ-loop) {v : Opening} → c .«open» .result ≡ v
     → (let turn = c .before .before .before .before in let start = turn .before .before .before .before .before in
     openAt (start .args .z) (start .args .chain .now) (start .args .list .now) (turn .before .loop .i) ≡ v)
-file-i c e = open-is _ _ _ _ (cut (c .before)) (c .«open» .ensures) e
+file-i c e = open-is _ _ _ _ (cut (c .before)) (c .«open» .ensures .is) e
 
 -- its commits were tried
 scanned : (c : tie.After-scan Inv-loop μ-loop)
@@ -93,7 +93,7 @@ scan-requires c κs =
     let turn = opened .before .before .before .before in
     let p = turn .before .before .before .before .before .pre .0 in (
       record { home = record { z = _; l = _; tabled = p; below = here turn }; before = turn .before .loop .inv .before },
-      (cut (opened .before) ∙ sym (part-by _ _ _ p _ (here turn)), sym (opened .«open» .ensures) ∙ file .f .given .1),
+      (cut (opened .before) ∙ sym (part-by _ _ _ p _ (here turn)), sym (opened .«open» .ensures .is) ∙ file .f .given .1),
     )
 
 returns-3 : tie.Need-returns-3 Inv-loop μ-loop
@@ -130,7 +130,7 @@ last c =
 accepted-requires : tie.Need-accepted-requires Inv-loop μ-loop
 accepted-requires c κs =
     let p = c .before .before .before .before .before .before .pre .0 in
-    omega (arith, p .first _ (last (c .before) .0), few-positions _ _ _ p _ (last (c .before) .0))
+    omega (arith, p .first _ (last (c .before) .0), few-positions _ _ _ (p .listed) _ (last (c .before) .0))
 
 returns-4 : tie.Need-returns-4 Inv-loop μ-loop
 returns-4 c =

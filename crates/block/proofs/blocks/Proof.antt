@@ -1,9 +1,10 @@
--- `block::blocks` meets its contract.
-use Prim.Native.Nat.{ℕ, _+_, _*_, _≤_, _-_, _/_}
-use mathlib.Core.Path.{_≡_, refl, _∙_, ap}
+-- `block::blocks` meets its contract. The invariant: i ≤ n, and `w` is the words after the first i blocks of `s`.
+-- The measure is n - i. Each turn is one block more (`stepped`), and n is the count of whole blocks.
+use Prim.Native.Nat.{_+_, _*_, _≤_, _-_, _/_}
+use mathlib.Core.Path.{_≡_, refl, _∙_}
 use native.Mathlib.Omega.{arith}
 use borrow.Author.Needs.{needs}
-use lib.ListN.{length, take, drop, length-take, length-drop}
+use lib.ListN.{length, length-take, length-drop}
 use Rattle.block.specs.Message.{after, afterAll, block}
 use Rattle.block.specs.Fips.{compress}
 use Rattle.block.proofs.Schedule.{stepped}
@@ -26,12 +27,10 @@ compress-block-requires c κs = simp (length-take, length-drop) (omega arith)
 loop-again : tie.Need-loop-again Inv-loop μ-loop
 unfolding block
 loop-again c =
-    let at-loop = c .before .before .before in
-    let l = at-loop .loop in
-    let s = at-loop .before .before .args .s .now in
+    let l = c .before .before .before .loop in
     let q : 64 * l .i + 64 - 64 * l .i ≡ 64 = omega arith in (
       omega arith,
-      c .compress-block .ensures ∙ ap (λ (k : ℕ). compress (l .w) (take k (drop (64 * l .i) s))) q ∙ stepped compress _ s _ (l .inv .1),
+      rw q at (c .compress-block .ensures) ∙ stepped compress _ _ _ (l .inv .1),
     )
 
 returns : tie.Need-returns Inv-loop μ-loop
@@ -40,7 +39,7 @@ returns c =
     let l = c .before .loop in
     let s = c .before .before .before .args .s .now in
     let q : l .i ≡ length s / 64 = omega arith in
-    l .inv .1 ∙ ap (after compress _ s) q
+    rw q at (l .inv .1)
 
 pub blocks-spec : {M : Type 1} → statement M
 blocks-spec =

@@ -1,4 +1,5 @@
--- `block::loaded` meets its contract.
+-- `block::loaded` meets its contract. The invariant: t ≤ 16, `w` has 80 words, and its first t words are the first t of the block's schedule.
+-- The measure is 16 - t. Each turn stores the next word, which is the block's own (`stored`, `next-low`).
 use Prim.Native.Nat.{_≤_, _-_}
 use mathlib.Core.Path.{_≡_, refl, _∙_}
 use native.Mathlib.Omega.{arith}

@@ -1,4 +1,4 @@
--- `block::one_round` meets its contract.
+-- `block::one_round` meets its contract: each part of the new words is a callee's contract.
 use Rattle.block.specs.Fips.{round}
 use borrow.Author.Needs.{needs}
 use Rattle.block.proofs.one_round.Statement.{statement}
@@ -7,17 +7,17 @@ use Rattle.block.proofs.one_round.Tie as tie
 returns : tie.Need-returns
 unfolding round
 returns c =
-    let at-constant = c .before .before .before in
-    let at-mix = at-constant .before .before .before in
+    let third = c .before .before .before in
+    let first = third .before .before .before in
     simp (
       c .rotate2 .ensures,
       c .before .wrapping-add-u324 .ensures,
       c .before .before .wrapping-add-u323 .ensures,
-      at-constant .constant .ensures,
-      at-constant .before .wrapping-add-u322 .ensures,
-      at-constant .before .before .wrapping-add-u32 .ensures,
-      at-mix .mix .ensures,
-      at-mix .before .rotate .ensures,
+      third .constant .ensures,
+      third .before .wrapping-add-u322 .ensures,
+      third .before .before .wrapping-add-u32 .ensures,
+      first .mix .ensures,
+      first .before .rotate .ensures,
     )
 
 pub one-round-spec : {M : Type 1} → statement M

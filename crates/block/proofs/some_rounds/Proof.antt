@@ -1,6 +1,8 @@
--- `block::some_rounds` meets its contract.
+-- `block::some_rounds` meets its contract. The invariant: from ≤ t ≤ to, and if `h` is what `from` rounds make of some h₀, then `s` is what t rounds
+-- make of it.
+-- The measure is to - t. Each turn is one round more (`turned`).
 use Prim.Native.Nat.{ℕ, _≤_, _-_}
-use mathlib.Core.Path.{_≡_, ap, _∙_}
+use mathlib.Core.Path.{_≡_, _∙_}
 use mathlib.Core.List.{List}
 use native.Mathlib.Omega.{arith}
 use Rattle.block.specs.Fips.{rounds}
@@ -27,7 +29,7 @@ returns : tie.Need-returns Inv-loop μ-loop
 returns c =
     let l = c .before .loop in
     let q : l .t ≡ c .before .before .args .to = omega arith in
-    λ h₀ e. l .inv .2 h₀ e ∙ ap (rounds _ h₀) q
+    λ h₀ e. rw q at (l .inv .2 h₀ e)
 
 pub some-rounds-spec : {M : Type 1} → statement M
 some-rounds-spec =

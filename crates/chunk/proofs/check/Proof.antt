@@ -1,4 +1,5 @@
--- `chunk::check` meets its contract.
+-- `chunk::check` meets its contract: each return is the way through the index's table that its tests name (`index-cut`, `index-entry`, `index-last`,
+-- `index-fine`).
 use mathlib.Core.Path.{_∙_}
 use Rattle.chunk.proofs.Sound.{index-cut, index-entry, index-last, index-fine}
 use borrow.Author.Needs.{needs}
@@ -10,26 +11,26 @@ returns c = c .at .ensures ∙ index-cut _ 0 (c .before .before .count .ensures 
 
 returns-2 : tie.Need-returns-2
 returns-2 c =
-    let at-if2 = c .before .before in
-    let at-if1 = at-if2 .before .before in
+    let searched = c .before .before in
+    let long = searched .before .before in
     c .at2 .ensures
-    ∙ index-entry _ _ (at-if1 .before .count .ensures .0) (at-if2 .before .bad-entry .ensures) (at-if1 .if1 .left)
-    (c .before .entry-rule .ensures) (at-if2 .if2 .taken)
+    ∙ index-entry _ _ (long .before .count .ensures .0) (searched .before .bad-entry .ensures) (long .if1 .left)
+    (c .before .entry-rule .ensures) (searched .if2 .taken)
 
 returns-3 : tie.Need-returns-3
 returns-3 c =
-    let at-if2 = c .before .before .before in
-    let at-if1 = at-if2 .before .before in
+    let searched = c .before .before .before in
+    let long = searched .before .before in
     c .at3 .ensures
-    ∙ index-last _ _ (at-if1 .before .count .ensures .0) (at-if2 .before .bad-entry .ensures) (at-if1 .if1 .left) (at-if2 .if2 .left)
+    ∙ index-last _ _ (long .before .count .ensures .0) (searched .before .bad-entry .ensures) (long .if1 .left) (searched .if2 .left)
     (c .before .before .id .ensures) (c .before .if3 .taken)
 
 returns-4 : tie.Need-returns-4
 returns-4 c =
-    let at-if2 = c .before .before .before in
-    let at-if1 = at-if2 .before .before in
+    let searched = c .before .before .before in
+    let long = searched .before .before in
     c .at4 .ensures
-    ∙ index-fine _ _ (at-if1 .before .count .ensures .0) (at-if2 .before .bad-entry .ensures) (at-if1 .if1 .left) (at-if2 .if2 .left)
+    ∙ index-fine _ _ (long .before .count .ensures .0) (searched .before .bad-entry .ensures) (long .if1 .left) (searched .if2 .left)
     (c .before .before .id .ensures) (c .before .if3 .left)
 
 pub check-spec : {M : Type 1} → statement M

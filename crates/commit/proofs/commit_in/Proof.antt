@@ -1,9 +1,10 @@
 -- `commit::commit_in` meets its contract.
 use Prim.Native.Nat.{_+_, _*_, _≤_}
-use mathlib.Core.Path.{_≡_, ap, _∙_}
+use mathlib.Core.Path.{ap, _∙_}
 use native.Mathlib.Omega.{arith}
 use lib.ListN.{length}
 use denote.Ref.{now}
+use Rattle.types.proofs.Saying.{answers}
 use Rattle.commit.specs.declared.Asked.the-variants.{Commit as Is, Refused}
 use Rattle.fit.proofs.Fitting.{zero-of}
 use Rattle.commit.proofs.Words.{row-there, commit-out, commit-in}
@@ -13,13 +14,11 @@ use Rattle.commit.proofs.commit_in.Tie as tie
 
 -- the row is there
 there : (c : tie.Else1)
-    → (c .before .before .before .args .w ≡ 20)
-    × (c .before .before .before .args .pos .0 * (c .before .before .before .args .w + 16) + (c .before .before .before .args .w + 16)
-    ≤ length (now (c .before .before .before .args .cdat)))
+    → (let a = c .before .before .before .args in a .pos .0 * (a .w + 16) + (a .w + 16) ≤ length (now (a .cdat)))
 there c = row-there _ _ _ (zero-of (c .before .row-rule .ensures) (c .if1 .left))
 
 returns : tie.Need-returns
-returns c = ap Refused (c .at .ensures) ∙ commit-out _ _ _ (c .before .before .row-rule .ensures) (c .before .if1 .taken)
+returns c = answers (ap Refused (c .at .ensures) ∙ commit-out _ _ _ (c .before .before .row-rule .ensures) (c .before .if1 .taken))
 
 add-fields : tie.Need-add-fields
 add-fields c = omega (arith, there c)
@@ -34,7 +33,7 @@ fields-requires : tie.Need-fields-requires
 fields-requires c κs = omega (arith, there c)
 
 returns-2 : tie.Need-returns-2
-returns-2 c = ap Is (c .fields .ensures) ∙ commit-in _ _ _ (c .before .before .row-rule .ensures) (c .before .if1 .left)
+returns-2 c = answers (ap Is (c .fields .ensures) ∙ commit-in _ _ _ (c .before .before .row-rule .ensures) (c .before .if1 .left))
 
 pub commit-in-spec : {M : Type 1} → statement M
 commit-in-spec =

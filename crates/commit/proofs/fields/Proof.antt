@@ -7,14 +7,14 @@ use Rattle.commit.proofs.fields.Tie as tie
 returns : tie.Need-returns
 unfolding commitOf
 returns c =
-    let at-be322 = c .before .before .before in
+    let second = c .before .before .before in
     simp (
       c .be324 .ensures,
       c .before .be323 .ensures,
       c .before .before .parent-edge2 .ensures,
-      at-be322 .be322 .ensures,
-      at-be322 .before .parent-edge .ensures,
-      at-be322 .before .before .be32 .ensures,
+      second .be322 .ensures,
+      second .before .parent-edge .ensures,
+      second .before .before .be32 .ensures,
     )
 
 pub fields-spec : {M : Type 1} → statement M

@@ -17,21 +17,21 @@ cdat-requires c κs = (answered _ _ _ _ (c .before .ask .ensures) (c .if1 .left)
 
 add-part : tie.Need-add-part
 add-part c =
-    let at-if1 = c .before .before .before in
-    omega (arith, (answered _ _ _ _ (at-if1 .before .ask .ensures) (at-if1 .if1 .left)) .fits)
+    let asked = c .before .before .before in
+    omega (arith, (answered _ _ _ _ (asked .before .ask .ensures) (asked .if1 .left)) .fits)
 
 mul-part : tie.Need-mul-part
 mul-part c =
-    let at-if1 = c .before .before .before in
-    let at-start = at-if1 .before .before .before in
-    let k = answered _ _ _ _ (at-if1 .before .ask .ensures) (at-if1 .if1 .left) in
-    omega (arith, run-within (at-start .args .pos .0) (at-start .args .f .commits) (at-start .args .f .width + 16) (k .below), k .fits)
+    let asked = c .before .before .before in
+    let start = asked .before .before .before in
+    let k = answered _ _ _ _ (asked .before .ask .ensures) (asked .if1 .left) in
+    omega (arith, run-within (start .args .pos .0) (start .args .f .commits) (start .args .f .width + 16) (k .below), k .fits)
 
 returns-2 : tie.Need-returns-2
 returns-2 c =
-    let at-cdat = c .before .before .before in
-    let k = answered _ _ _ _ (at-cdat .before .before .ask .ensures) (at-cdat .before .if1 .left) in
-    row-part _ _ _ _ (at-cdat .cdat .ensures) (k .below) (omega arith) (k .rule) (k .fits .rows) (c .part .ensures)
+    let cut = c .before .before .before in
+    let k = answered _ _ _ _ (cut .before .before .ask .ensures) (cut .before .if1 .left) in
+    row-part _ _ _ _ (cut .cdat .ensures) (k .below) (omega arith) (k .rule) (k .fits .rows) (c .part .ensures)
 
 pub tree-at-spec : {M : Type 1} → statement M
 tree-at-spec =

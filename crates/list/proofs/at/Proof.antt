@@ -1,4 +1,4 @@
--- `list::at` meets its contract.
+-- `list::at` meets its contract: two numbers of 32 bits have a product of 64 (`square`).
 use mathlib.Core.Path.{refl}
 use native.Mathlib.Omega.{arith}
 use Rattle.list.proofs.Records.{square}

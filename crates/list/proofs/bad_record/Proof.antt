@@ -1,10 +1,12 @@
--- `list::bad_record` meets its contract.
+-- `list::bad_record` meets its contract. The invariant: k ≤ n, and the search for a flawed record among all n is the search from k on.
+-- The measure is n - k. Each turn passes a record that breaks no rule, or stops at one that does; record k lies in the list (`record-room`).
 use Prim.Native.Nat.{_-_, _≤_}
 use mathlib.Core.Path.{_≡_}
 use native.Mathlib.Omega.{arith}
 use Rattle.words.specs.First.{first}
 use Rattle.list.specs.List.{flawed}
-use Rattle.list.proofs.Records.{searching, record-room}
+use Rattle.words.proofs.Searches.{searching}
+use Rattle.list.proofs.Records.{record-room}
 use Rattle.list.proofs.bad_record.Statement.{statement}
 use Rattle.list.proofs.bad_record.Tie as tie
 
@@ -20,18 +22,14 @@ loop-holds c = (omega arith, search searching)
 record-rule-requires : tie.Need-record-rule-requires Inv-loop μ-loop
 record-rule-requires c κs =
     let start = c .before .before .before in
-    record-room _ _ _ _ (c .loop-test .taken) (start .pre .0) (start .pre .1)
-
-returns : tie.Need-returns Inv-loop μ-loop
-returns c = search searching
+    record-room (c .loop-test .taken) (start .pre .0) (start .pre .1)
 
 loop-again : tie.Need-loop-again Inv-loop μ-loop
+unfolding flawed
 loop-again c = (omega arith, search searching)
 
-returns-2 : tie.Need-returns-2 Inv-loop μ-loop
-returns-2 c = search searching
-
 pub bad-record-spec : {M : Type 1} → statement M
+unfolding flawed
 bad-record-spec =
     tie.close
     (tie.spec
@@ -39,8 +37,8 @@ bad-record-spec =
     μ-loop
     loop-holds
     record-rule-requires
-    returns
+    (λ c. search searching)
     (λ c. omega arith)
     (λ c. omega arith)
     loop-again
-    returns-2)
+    (λ c. search searching))

@@ -1,4 +1,4 @@
--- `list::claim_at` meets its contract.
+-- `list::claim_at` meets its contract, at the place that `at` gives.
 use borrow.Author.Needs.{needs}
 use Rattle.list.proofs.claim_at.Statement.{statement}
 use Rattle.list.proofs.claim_at.Tie as tie

@@ -1,4 +1,4 @@
--- `list::claims` meets its contract.
+-- `list::claims` meets its contract, at the place that `at` gives.
 use borrow.Author.Needs.{needs}
 use Rattle.list.proofs.claims.Statement.{statement}
 use Rattle.list.proofs.claims.Tie as tie

@@ -1,4 +1,4 @@
--- `list::count` meets its contract.
+-- `list::count` meets its contract: a list with records of no bytes has none, and a quotient by 0 is 0.
 use native.Mathlib.Nat.{div-zero}
 use borrow.Author.Needs.{needs}
 use Rattle.list.proofs.count.Statement.{statement}

@@ -1,4 +1,4 @@
--- `list::stray` meets its contract.
+-- `list::stray` meets its contract: by the two cases of the kind.
 use mathlib.Core.Bool.{not}
 use mathlib.Core.Path.{sym, ap, _∙_}
 use Rattle.words.proofs.Rows.{and-first, eq-via, ne-via}

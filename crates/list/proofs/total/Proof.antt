@@ -1,4 +1,5 @@
--- `list::total` meets its contract.
+-- `list::total` meets its contract. The invariant: k ≤ n, `sum` is the sum of the first k lengths, and it is at most k times 2 ^ 32.
+-- The measure is n - k. Each turn adds length k (`before-next`); as n ≤ 256, no sum wraps.
 use Prim.Native.Nat.{_-_, _*_, _≤_}
 use mathlib.Core.Path.{_≡_, refl}
 use native.Mathlib.Omega.{arith}
@@ -21,8 +22,8 @@ loop-holds c = (omega arith, refl, omega arith)
 
 add-sum : tie.Need-add-sum Inv-loop μ-loop
 add-sum c =
-    let at-loop = c .before .before in
-    omega (arith, c .length-at .ok, at-loop .loop .inv, at-loop .before .before .pre)
+    let turn = c .before .before in
+    omega (arith, c .length-at .ok, turn .loop .inv, turn .before .before .pre)
 
 loop-again : tie.Need-loop-again Inv-loop μ-loop
 loop-again c =

@@ -1,7 +1,8 @@
--- `marks::date_at` meets its contract.
+-- `marks::date_at` meets its contract: a question that the rule passes has its row in the file, so that the date's place neither wraps nor lies outside.
 use Prim.Native.Nat.{ℕ}
 use mathlib.Core.Path.{ap, _∙_}
 use native.Mathlib.Omega.{arith}
+use Rattle.types.proofs.Saying.{answers}
 use Rattle.fit.proofs.Fitting.{answered}
 use Rattle.marks.specs.Marks.{run}
 use Rattle.marks.specs.declared.Mark.the-variants.{At, Refused}
@@ -12,7 +13,7 @@ use Rattle.marks.proofs.date_at.Statement.{statement}
 use Rattle.marks.proofs.date_at.Tie as tie
 
 returns : tie.Need-returns
-returns c = ap Refused (c .at .ensures) ∙ date-out _ _ _ (c .before .before .ask .ensures) (c .before .if1 .taken)
+returns c = answers (ap Refused (c .at .ensures) ∙ date-out _ _ _ (c .before .before .ask .ensures) (c .before .if1 .taken))
 
 field-requires : tie.Need-field-requires
 field-requires c κs =
@@ -23,15 +24,7 @@ add-end c =
     omega (arith, field-room (answered _ _ _ _ (c .before .before .ask .ensures) (c .before .if1 .left)) 8 8 (omega arith))
 
 returns-2 : tie.Need-returns-2
-returns-2 c = ap (λ (n : ℕ). At (run n 8)) (c .field .ensures) ∙ date-in _ _ _ (c .before .before .ask .ensures) (c .before .if1 .left)
+returns-2 c = answers (ap (λ (n : ℕ). At (run n 8)) (c .field .ensures) ∙ date-in _ _ _ (c .before .before .ask .ensures) (c .before .if1 .left))
 
 pub date-at-spec : {M : Type 1} → statement M
-date-at-spec =
-    tie.close
-    (tie.spec
-    (λ c κs. search needs)
-    (λ c κs. search needs)
-    returns
-    field-requires
-    add-end
-    returns-2)
+date-at-spec = tie.close (tie.spec (search needs) (search needs) returns field-requires add-end returns-2)

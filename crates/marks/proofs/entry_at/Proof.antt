@@ -1,7 +1,11 @@
--- `marks::entry_at` meets its contract.
-use mathlib.Core.Path.{ap, _∙_}
+-- `marks::entry_at` meets its contract: a question that the rule passes has its parts in the file, and the entry's rule is asked of them (`asked`).
+use mathlib.Core.Path.{_≡_, ap, _∙_}
 use native.Mathlib.Omega.{arith}
-use Rattle.fit.proofs.Fitting.{answered}
+use denote.Ref.{now}
+use Rattle.types.proofs.Saying.{answers}
+use Rattle.fit.specs.Fits.{fanPart, idsPart, rowsPart}
+use Rattle.fit.proofs.Fitting.{Answered, answered}
+use Rattle.rules.specs.Rules.{entryIn}
 use Rattle.access.specs.declared.Asking.the-variants.{Refused}
 use Rattle.marks.proofs.Ways.{entry-out, entry-bad, entry-fine, entry-cut}
 use borrow.Author.Needs.{needs}
@@ -9,48 +13,46 @@ use Rattle.marks.proofs.entry_at.Statement.{statement}
 use Rattle.marks.proofs.entry_at.Tie as tie
 
 returns : tie.Need-returns
-returns c = ap Refused (c .at .ensures) ∙ entry-out _ _ _ (c .before .before .ask .ensures) (c .before .if1 .taken)
+returns c = answers (ap Refused (c .at .ensures) ∙ entry-out _ _ _ (c .before .before .ask .ensures) (c .before .if1 .taken))
 
 add-part : tie.Need-add-part
 add-part c =
-    let at-if1 = c .before .before .before in
-    omega (arith, answered _ _ _ _ (at-if1 .before .ask .ensures) (at-if1 .if1 .left) .width)
+    let passed = c .before .before .before in
+    omega (arith, answered _ _ _ _ (passed .before .ask .ensures) (passed .if1 .left) .fits)
+
+-- the question passes, and k is what the entry's rule says of the file's own parts
+asked : (c : tie.After-entry-in)
+    → (let passed = c .before .before .before .before .before in let a = passed .before .before .before .args in
+    Answered (now (a .s)) (a .f) (a .f .commits) (a .pos .0)
+    × (c .entry-in .result ≡ entryIn (a .f .width) (fanPart (now (a .s)) (a .f)) (idsPart (now (a .s)) (a .f)) (rowsPart (now (a .s)) (a .f)) (a .pos .0)))
+asked c =
+    let cut = c .before .before in
+    let passed = cut .before .before .before in
+    let k = answered _ _ _ _ (passed .before .ask .ensures) (passed .if1 .left) in
+    (k, c .entry-in .ensures ∙ entry-cut _ _ _ _ k (cut .before .part .ensures) (cut .part2 .ensures) (c .before .part3 .ensures))
 
 returns-2 : tie.Need-returns-2
 returns-2 c =
-    let at-if2 = c .before .before in
-    let at-part2 = at-if2 .before .before .before in
-    let at-if1 = at-part2 .before .before .before in
-    let k = answered _ _ _ _ (at-if1 .before .ask .ensures) (at-if1 .if1 .left) in
-    ap Refused (c .at2 .ensures)
-    ∙ entry-bad _ _ _ k
-    (at-if2 .before .entry-in .ensures
-    ∙ entry-cut _ _ _ _ k (at-part2 .before .part .ensures) (at-part2 .part2 .ensures) (at-if2 .before .before .part3 .ensures))
-    (at-if2 .if2 .taken)
+    let k = asked (c .before .before .before) in
+    answers (ap Refused (c .at2 .ensures) ∙ entry-bad _ _ _ (k .0) (k .1) (c .before .before .if2 .taken))
 
 returns-3 : tie.Need-returns-3
-returns-3 c =
-    let at-part2 = c .before .before .before in
-    let at-if1 = at-part2 .before .before .before in
-    let k = answered _ _ _ _ (at-if1 .before .ask .ensures) (at-if1 .if1 .left) in
-    entry-fine _ _ _ k
-    (c .before .entry-in .ensures
-    ∙ entry-cut _ _ _ _ k (at-part2 .before .part .ensures) (at-part2 .part2 .ensures) (c .before .before .part3 .ensures)) (c .if2 .left)
+returns-3 c = answers (let k = asked (c .before) in entry-fine _ _ _ (k .0) (k .1) (c .if2 .left))
 
 pub entry-at-spec : {M : Type 1} → statement M
 entry-at-spec =
     tie.close
     (tie.spec
-    (λ c κs. search needs)
-    (λ c κs. search needs)
+    (search needs)
+    (search needs)
     returns
-    (λ c. search needs)
-    (λ c κs. search needs)
-    (λ c κs. search needs)
+    (search needs)
+    (search needs)
+    (search needs)
     add-part
-    (λ c κs. search needs)
-    (λ c κs. search needs)
-    (λ c. search needs)
-    (λ c κs. search needs)
+    (search needs)
+    (search needs)
+    (search needs)
+    (search needs)
     returns-2
     returns-3)

@@ -1,4 +1,4 @@
--- `marks::place` meets its contract.
+-- `marks::place` meets its contract: a step that answers a parent has its word in the file (`step-word`), so that no place wraps.
 use mathlib.Core.Path.{subst, _∙_}
 use native.Mathlib.Omega.{arith}
 use denote.Ref.{now}
@@ -11,9 +11,8 @@ use Rattle.marks.proofs.place.Tie as tie
 
 field-requires : tie.Need-field-requires
 field-requires c κs =
-    let start = c .before .before .before in
-    field-fits (step-word _ _ _ _ (λ i. c .before .before .shared-slice-known .given i .fits) (start .pre .1) .0) 0
-    (omega arith) (omega arith)
+    let known = c .before .before in
+    field-fits (step-word _ _ _ _ (λ i. known .shared-slice-known .given i .fits) (known .before .pre .1) .0) 0 (omega arith) (omega arith)
 
 second-requires : tie.Need-second-requires
 second-requires c κs =
@@ -23,10 +22,10 @@ second-requires c κs =
 edge-requires : tie.Need-edge-requires
 unfolding placeOf
 edge-requires c κs =
-    let start = c .before .before .before .before in
-    let a = start .args in
-    let m = subst (λ (s : Phase). Meets (now (a .s)) (a .f) (a .pos .0) s) (c .before .phase .given .1) (start .pre) in
-    let w = step-word (now (a .s)) (a .f) (a .pos .0) _ (λ i. c .before .before .before .shared-slice-known .given i .fits) (m .1) .1 in
+    let known = c .before .before .before in
+    let a = known .before .args in
+    let m = subst (λ (s : Phase). Meets (now (a .s)) (a .f) (a .pos .0) s) (c .before .phase .given .1) (known .before .pre) in
+    let w = step-word (now (a .s)) (a .f) (a .pos .0) _ (λ i. known .shared-slice-known .given i .fits) (m .1) .1 in
     omega (arith, w .inside)
 
 returns : tie.Need-returns
@@ -48,13 +47,13 @@ pub place-spec : {M : Type 1} → statement M
 place-spec =
     tie.close
     (tie.spec
-    (λ c. search needs)
+    (search needs)
     field-requires
-    (λ c. search needs)
+    (search needs)
     second-requires
-    (λ c. search needs)
+    (search needs)
     edge-requires
-    (λ c. search needs)
+    (search needs)
     returns
     returns-2
     returns-3

@@ -1,5 +1,6 @@
--- `name::claimed` meets its contract.
-use Prim.Native.Nat.{_+_, _-_, _*_, _≤_}
+-- `name::claimed` meets its contract. The invariant: i ≤ 20, `out` has 20 bytes, and its first i are the first i bytes of the hash.
+-- The measure is 20 - i. Each turn stores the byte of two digits (`grown`), which is a byte, for both are below 16 (`digits`).
+use Prim.Native.Nat.{_+_, _-_, _*_, _<_, _≤_}
 use mathlib.Core.Path.{_≡_, refl}
 use native.Mathlib.Omega.{arith}
 use borrow.Author.Needs.{needs}
@@ -20,50 +21,24 @@ loop-holds : tie.Need-loop-holds Inv-loop μ-loop
 unfolding hashOf
 loop-holds c = (search needs, refl, refl)
 
-shared-slice-read-digit : tie.Need-shared-slice-read-digit Inv-loop μ-loop
-shared-slice-read-digit c =
-    let start = c .before .before .before .before in
-    omega (arith, start .pre .size)
-
-shared-slice-read-digit-2 : tie.Need-shared-slice-read-digit-2 Inv-loop μ-loop
-shared-slice-read-digit-2 c =
-    let start = c .before .before .before .before .before .before in
-    omega (arith, start .pre .size)
-
-mul-out : tie.Need-mul-out Inv-loop μ-loop
-mul-out c =
-    let at-loop-test = c .before .before .before .before in
-    let start = at-loop-test .before .before .before in
-    let i = at-loop-test .before .loop .i in
-    omega (
-      arith,
-      c .before .before .digit .ensures,
-      c .digit2 .ensures,
-      pair-low i (start .pre) (at-loop-test .loop-test .taken),
-      pair-high i (start .pre) (at-loop-test .loop-test .taken),
-    )
-
-add-out : tie.Need-add-out Inv-loop μ-loop
-add-out c =
-    let at-loop-test = c .before .before .before .before in
-    let start = at-loop-test .before .before .before in
-    let i = at-loop-test .before .loop .i in
-    omega (
-      arith,
-      c .before .before .digit .ensures,
-      c .digit2 .ensures,
-      pair-low i (start .pre) (at-loop-test .loop-test .taken),
-      pair-high i (start .pre) (at-loop-test .loop-test .taken),
+-- both digits are below 16
+digits : (c : tie.After-digit2 Inv-loop μ-loop) → (c .before .before .digit .result < 16) × (c .digit2 .result < 16)
+digits c =
+    let turn = c .before .before .before .before in
+    let hexed = turn .before .before .before .pre in
+    let i = turn .before .loop .i in (
+      rw (c .before .before .digit .ensures .0) (pair-low i hexed (turn .loop-test .taken)),
+      rw (c .digit2 .ensures .0) (pair-high i hexed (turn .loop-test .taken)),
     )
 
 loop-again : tie.Need-loop-again Inv-loop μ-loop
 unfolding hashOf
 loop-again c =
-    let at-loop = c .before .before .before .before .before in
-    let l = at-loop .loop in (
+    let turn = c .before .before .before .before .before in
+    let l = turn .loop in (
       omega arith,
       simp length-set (l .inv .1),
-      grown (hashOf (at-loop .before .before .args .s .now)) (l .out) (l .i) (16 * c .before .before .digit .result + c .digit2 .result)
+      grown (hashOf (turn .before .before .args .s .now)) (l .out) (l .i) (16 * c .before .before .digit .result + c .digit2 .result)
           (omega arith) (l .inv .2) (rw (c .before .before .digit .ensures .0, c .digit2 .ensures .0)),
     )
 
@@ -79,14 +54,14 @@ claimed-spec =
     loop-holds
     (λ c. omega arith)
     (λ c. omega arith)
-    shared-slice-read-digit
+    (λ c. omega (arith, c .before .before .before .before .pre .size))
     (λ c κs. search needs)
     (λ c. omega arith)
     (λ c. omega arith)
-    shared-slice-read-digit-2
+    (λ c. omega (arith, c .before .before .before .before .before .before .pre .size))
     (λ c κs. search needs)
-    mul-out
-    add-out
+    (λ c. omega (arith, digits c))
+    (λ c. omega (arith, digits c))
     (λ c. omega arith)
     (λ c. omega arith)
     (λ c. omega arith)

@@ -1,4 +1,4 @@
--- `name::digit` meets its contract.
+-- `name::digit` meets its contract: each return is the row of the table that its branch names.
 use native.Mathlib.Omega.{arith}
 use Rattle.words.proofs.Rows.{rows}
 use Rattle.name.specs.Names.{digitOf}
@@ -6,44 +6,17 @@ use borrow.Author.Needs.{needs}
 use Rattle.name.proofs.digit.Statement.{statement}
 use Rattle.name.proofs.digit.Tie as tie
 
-returns : tie.Need-returns
-unfolding digitOf
-returns c = (search rows depth 20, omega arith)
-
-returns-2 : tie.Need-returns-2
-unfolding digitOf
-returns-2 c = (search rows depth 20, omega arith)
-
-returns-3 : tie.Need-returns-3
-unfolding digitOf
-returns-3 c = (search rows depth 20, omega arith)
-
-returns-4 : tie.Need-returns-4
-unfolding digitOf
-returns-4 c = (search rows depth 20, omega arith)
-
-returns-5 : tie.Need-returns-5
-unfolding digitOf
-returns-5 c = (search rows depth 20, omega arith)
-
-returns-6 : tie.Need-returns-6
-unfolding digitOf
-returns-6 c = (search rows depth 20, omega arith)
-
-returns-7 : tie.Need-returns-7
-unfolding digitOf
-returns-7 c = (search rows depth 20, omega arith)
-
 pub digit-spec : {M : Type 1} → statement M
+unfolding digitOf
 digit-spec =
     tie.close
     (tie.spec
-    returns
-    returns-2
-    returns-3
+    (λ c. (search rows depth 20, omega arith))
+    (λ c. (search rows depth 20, omega arith))
+    (λ c. (search rows depth 20, omega arith))
     (λ c. search needs)
-    returns-4
-    returns-5
+    (λ c. (search rows depth 20, omega arith))
+    (λ c. (search rows depth 20, omega arith))
     (λ c. search needs)
-    returns-6
-    returns-7)
+    (λ c. (search rows depth 20, omega arith))
+    (λ c. (search rows depth 20, omega arith)))

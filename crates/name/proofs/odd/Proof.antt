@@ -1,12 +1,12 @@
--- `name::odd` meets its contract.
+-- `name::odd` meets its contract. The invariant: i ≤ n, and the search for a misfit among all n bytes is the search from i on.
+-- The measure is n - i. Each turn passes a byte that is a digit, or stops at one that is none (the rules `searching`).
 use Prim.Native.Nat.{_-_, _≤_}
 use mathlib.Core.Path.{_≡_}
 use native.Mathlib.Omega.{arith}
 use borrow.Author.Needs.{needs}
-use Rattle.words.proofs.Searches.{first-stop, first-step}
+use Rattle.words.proofs.Searches.{searching}
 use Rattle.words.specs.First.{first}
 use Rattle.name.specs.Names.{misfit}
-use Rattle.name.proofs.Hex.{searching, misfit-yes, misfit-no}
 use Rattle.name.proofs.odd.Statement.{statement}
 use Rattle.name.proofs.odd.Tie as tie
 
@@ -19,24 +19,12 @@ abbrev μ-loop : tie.MeasureT-loop
 loop-holds : tie.Need-loop-holds Inv-loop μ-loop
 loop-holds c = (omega arith, search searching)
 
-returns : tie.Need-returns Inv-loop μ-loop
-returns c =
-    let at-loop-test = c .before .before .before in
-    first-stop _ _ _ (at-loop-test .before .loop .inv .1) (at-loop-test .loop-test .taken)
-    (misfit-yes _ _ _ (c .before .digit .ensures .0) (c .if1 .taken))
-
 loop-again : tie.Need-loop-again Inv-loop μ-loop
-loop-again c =
-    let at-loop-test = c .before .before .before in (
-      omega arith,
-      first-step _ _ _ (at-loop-test .before .loop .inv .1) (at-loop-test .loop-test .taken)
-          (misfit-no _ _ _ (c .before .digit .ensures .0) (c .if1 .left)),
-    )
-
-returns-2 : tie.Need-returns-2 Inv-loop μ-loop
-returns-2 c = search searching
+unfolding misfit
+loop-again c = (omega arith, search searching)
 
 pub odd-spec : {M : Type 1} → statement M
+unfolding misfit
 odd-spec =
     tie.close
     (tie.spec
@@ -46,8 +34,8 @@ odd-spec =
     (λ c. omega arith)
     (λ c. omega arith)
     (λ c κs. search needs)
-    returns
+    (λ c. search searching)
     (λ c. omega arith)
     (λ c. omega arith)
     loop-again
-    returns-2)
+    (λ c. search searching))

@@ -1,4 +1,4 @@
--- `opens::answer_prefixes` meets its contract.
+-- `opens::answer_prefixes` meets its contract. The invariant: n is at most one past the length. The measure: the lengths left.
 use Prim.Native.Nat.{_≤_, _+_, _-_}
 use borrow.Author.Needs.{needs}
 use native.Mathlib.Omega.{arith}
@@ -21,10 +21,10 @@ answer-prefixes-spec =
     (tie.spec
     Inv-loop
     μ-loop
-    (λ c. search needs)
+    (search needs)
     slice-aggregate-answer-file
-    (λ c κs. search needs)
-    (λ c. search needs)
-    (λ c. search needs)
-    (λ c. search needs)
-    (λ c. search needs))
+    (search needs)
+    (search needs)
+    (search needs)
+    (search needs)
+    (search needs))

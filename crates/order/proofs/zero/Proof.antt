@@ -1,4 +1,5 @@
--- `order::zero` meets its contract.
+-- `order::zero` meets its contract. The invariant: k ≤ length s, and the first k bytes make the number 0.
+-- The measure is length s - k. Each turn adds a byte that is 0 (`be-next`); one that is not makes the number more than 0 (`be-some`).
 use native.Mathlib.Nat.{zero-add}
 use Prim.Native.Nat.{_+_, _-_, _≤_, _<_}
 use native.Mathlib.Omega.{arith}
@@ -22,17 +23,17 @@ loop-holds c = (omega arith, refl)
 
 returns : tie.Need-returns Inv-loop μ-loop
 returns c =
-    let at-loop = c .before .before .before in
-    let s = at-loop .before .args .s .now in
-    let g : 0 < be (length s) s 0 = be-some (length s) s 0 (at-loop .loop .k) (omega arith) (rw zero-add (c .if1 .taken)) in
+    let turn = c .before .before .before in
+    let s = turn .before .args .s .now in
+    let g : 0 < be (length s) s 0 = be-some (length s) s 0 (turn .loop .k) (omega arith) (rw zero-add (c .if1 .taken)) in
     sym (ne-eqb (be (length s) s 0) 0 (λ e. omega arith))
 
 loop-again : tie.Need-loop-again Inv-loop μ-loop
 loop-again c =
-    let at-loop = c .before .before .before in
-    let s = at-loop .before .args .s .now in
-    let g : getD s (0 + at-loop .loop .k) 0 ≡ getD s (at-loop .loop .k) 0 = rw zero-add in
-    (omega arith, omega (arith, be-next s 0 (at-loop .loop .k)))
+    let turn = c .before .before .before in
+    let s = turn .before .args .s .now in
+    let g : getD s (0 + turn .loop .k) 0 ≡ getD s (turn .loop .k) 0 = rw zero-add in
+    (omega arith, omega (arith, be-next s 0 (turn .loop .k)))
 
 returns-2 : tie.Need-returns-2 Inv-loop μ-loop
 returns-2 c =

@@ -1,4 +1,4 @@
--- `parents::edge` meets its contract.
+-- `parents::edge` meets its contract: a chunk that fits lies in the file, so that the part cut is the whole of it.
 use native.Mathlib.Omega.{arith}
 use native.Mathlib.Nat.{mul-one}
 use Rattle.words.proofs.Parts.{records-in}
@@ -12,8 +12,4 @@ returns c =
     rw (mul-one, c .before .size .ensures, c .before .before .start .ensures) at p
 
 pub edge-spec : {M : Type 1} → statement M
-edge-spec = tie.close (tie.spec
-    (λ c κs. search needs)
-    (λ c κs. search needs)
-    (λ c κs. search needs)
-    returns)
+edge-spec = tie.close (tie.spec (search needs) (search needs) (search needs) returns)

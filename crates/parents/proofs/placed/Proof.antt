@@ -1,4 +1,4 @@
--- `parents::placed` meets its contract.
+-- `parents::placed` meets its contract: each case of what was met is the row of `answerOf` that it names.
 use Rattle.parents.specs.Walks.{answerOf}
 use borrow.Author.Needs.{needs}
 use Rattle.parents.proofs.placed.Statement.{statement}
@@ -20,10 +20,10 @@ pub placed-spec : {M : Type 1} → statement M
 placed-spec =
     tie.close
     (tie.spec
-    (λ c. search needs)
-    (λ c. search needs)
-    (λ c κs. search needs)
-    (λ c. search needs)
+    (search needs)
+    (search needs)
+    (search needs)
+    (search needs)
     returns
     returns-2
     returns-3)

@@ -1,4 +1,4 @@
--- `places::base_part` meets its contract.
+-- `places::base_part` meets its contract: it is the row of `row_at`, whose `more` is 0.
 use native.Mathlib.Nat.{add-zero}
 use borrow.Author.Needs.{needs}
 use Rattle.places.proofs.base_part.Statement.{statement}
@@ -8,7 +8,4 @@ returns : tie.Need-returns
 returns c = rw add-zero at (c .row-at .ensures)
 
 pub base-part-spec : {M : Type 1} → statement M
-base-part-spec = tie.close (tie.spec
-    (λ c. search needs)
-    (λ c κs. search needs)
-    returns)
+base-part-spec = tie.close (tie.spec (search needs) (search needs) returns)

@@ -1,4 +1,4 @@
--- `places::chunk_part` meets its contract.
+-- `places::chunk_part` meets its contract: an index that is refused has no part (`part-barred`); else the part is the chunk's start and size (`part-open`).
 use Rattle.places.proofs.Placing.{part-barred, part-open}
 use borrow.Author.Needs.{needs}
 use Rattle.places.proofs.chunk_part.Statement.{statement}
@@ -9,20 +9,20 @@ returns c = part-barred _ _ (c .before .before .before .check .ensures) (c .no-p
 
 returns-2 : tie.Need-returns-2
 returns-2 c =
-    let at-find = c .before .before .before in
-    part-open _ _ (at-find .before .before .before .check .ensures)
-    (simp (c .part-at .ensures, c .before .size .ensures, c .before .before .start .ensures, at-find .find .ensures))
-    (at-find .before .if1 .left)
+    let found = c .before .before .before in
+    part-open _ _ (found .before .before .before .check .ensures)
+    (simp (c .part-at .ensures, c .before .size .ensures, c .before .before .start .ensures, found .find .ensures .is))
+    (found .before .if1 .left)
 
 pub chunk-part-spec : {M : Type 1} → statement M
 chunk-part-spec =
     tie.close
     (tie.spec
-    (λ c κs. search needs)
-    (λ c κs. search needs)
+    (search needs)
+    (search needs)
     returns
-    (λ c κs. search needs)
-    (λ c κs. search needs)
-    (λ c κs. search needs)
-    (λ c κs. search needs)
+    (search needs)
+    (search needs)
+    (search needs)
+    (search needs)
     returns-2)

@@ -1,4 +1,4 @@
--- `places::sum_part` meets its contract.
+-- `places::sum_part` meets its contract: a file that fits has more bytes than its width, so that the place of the trailer does not wrap.
 use native.Mathlib.Omega.{arith}
 use Rattle.fit.proofs.Fitting.{fitted, zero-of}
 use Rattle.places.proofs.Placing.{part-refused, part-fine}
@@ -8,25 +8,25 @@ use Rattle.places.proofs.sum_part.Tie as tie
 
 returns : tie.Need-returns
 returns c =
-    let at-if1 = c .before .before in
-    part-refused _ _ (at-if1 .before .fit .ensures) (c .no-part .ensures) (c .before .at .ensures) (at-if1 .if1 .taken)
+    let tested = c .before .before in
+    part-refused _ _ (tested .before .fit .ensures) (c .no-part .ensures) (c .before .at .ensures) (tested .if1 .taken)
 
 sub-part-at : tie.Need-sub-part-at
 sub-part-at c = let k = fitted _ _ (zero-of (c .before .before .fit .ensures) (c .before .if1 .left)) in omega (arith, k .narrow, k .fan)
 
 returns-2 : tie.Need-returns-2
 returns-2 c =
-    let at-if1 = c .before .before in
-    part-fine _ _ (at-if1 .before .fit .ensures) (c .part-at .ensures) (at-if1 .if1 .left)
+    let tested = c .before .before in
+    part-fine _ _ (tested .before .fit .ensures) (c .part-at .ensures) (tested .if1 .left)
 
 pub sum-part-spec : {M : Type 1} → statement M
 sum-part-spec =
     tie.close
     (tie.spec
-    (λ c κs. search needs)
-    (λ c κs. search needs)
-    (λ c κs. search needs)
+    (search needs)
+    (search needs)
+    (search needs)
     returns
     sub-part-at
-    (λ c κs. search needs)
+    (search needs)
     returns-2)

@@ -1,4 +1,4 @@
--- `report::parts` meets its contract.
+-- `report::parts` meets its contract: each return is the conjunct of `readable` that its test decides.
 use native.Mathlib.Omega.{arith}
 use Rattle.report.proofs.Reading.{short, large, cut, whole}
 use borrow.Author.Needs.{needs}
@@ -22,11 +22,11 @@ parts-spec =
     tie.close
     (tie.spec
     returns
-    (λ c κs. search needs)
-    (λ c. search needs)
+    (search needs)
+    (search needs)
     returns-2
-    (λ c. search needs)
+    (search needs)
     returns-3
-    (λ c. search needs)
-    (λ c. search needs)
+    (search needs)
+    (search needs)
     returns-4)

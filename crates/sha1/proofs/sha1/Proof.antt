@@ -1,9 +1,6 @@
--- `sha1::sha1` meets its contract.
+-- `sha1::sha1` meets its contract: a hasher that has had a message gives the digest of it (`of-none`, `of-more`, `of-finished`).
 use Prim.Native.Nat.{ℕ}
-use mathlib.Core.Path.{ap, _∙_}
 use mathlib.Core.List.{List, []}
-use Rattle.hasher.specs.State.{updated, finished}
-use Rattle.hasher.specs.declared.Hasher.{Hasher}
 use Rattle.hasher.proofs.Laws.{of-none, of-more}
 use Rattle.sha1.proofs.Laws.{of-finished}
 use borrow.Author.Needs.{needs}
@@ -12,11 +9,9 @@ use Rattle.sha1.proofs.sha1.Tie as tie
 
 returns : tie.Need-returns
 returns c =
-    let at-new = c .before .before in
-    let s : List ℕ = at-new .before .before .args .s .now in
-    c .finish .ensures
-    ∙ ap finished (c .before .update .ensures ∙ ap (λ (h : Hasher). updated h s) (at-new .new .ensures ∙ of-none) ∙ of-more [] s)
-    ∙ of-finished s
+    let made = c .before .before in
+    let s : List ℕ = made .before .before .args .s .now in
+    rw (c .before .update .ensures, made .new .ensures, of-none, of-more [] s, of-finished s) at (c .finish .ensures)
 
 pub sha1-spec : {M : Type 1} → statement M
 sha1-spec = tie.close (tie.spec

@@ -1,4 +1,4 @@
--- `steps::edge_rule` meets its contract.
+-- `steps::edge_rule` meets its contract: each return is the first row of `edgeRule` whose test holds; the early test on k implies the row of 53.
 use Prim.Native.Nat.{_*_}
 use native.Mathlib.Omega.{arith}
 use lib.ListN.{length}
@@ -17,8 +17,8 @@ returns c = search rows depth 12
 returns-2 : tie.Need-returns-2
 unfolding edgeRule
 returns-2 c =
-    miss 52 _ _ 53 (c .before .if1 .left)
-    (hit 53 _ _ (le-leb (length (now (c .before .before .args .edge))) (4 * c .before .before .args .k) (omega arith)))
+    let start = c .before .before in
+    miss 52 _ _ 53 (c .before .if1 .left) (hit 53 _ _ (le-leb (length (now (start .args .edge))) (4 * start .args .k) (omega arith)))
 
 returns-3 : tie.Need-returns-3
 unfolding edgeRule
@@ -37,9 +37,9 @@ edge-rule-spec =
     tie.close (tie.spec
     returns
     returns-2
-    (λ c. search needs)
+    (search needs)
     returns-3
-    (λ c. search needs)
-    (λ c. search needs)
+    (search needs)
+    (search needs)
     returns-4
     returns-5)

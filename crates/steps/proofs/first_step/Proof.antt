@@ -1,4 +1,4 @@
--- `steps::first_step` meets its contract.
+-- `steps::first_step` meets its contract: each case of the two words is a row of `firstNext`, or of `aloneNext` where the first is none.
 use mathlib.Core.Path.{_∙_}
 use Rattle.steps.specs.Walks.{firstNext, aloneNext}
 use borrow.Author.Needs.{needs}
@@ -29,17 +29,17 @@ pub first-step-spec : {M : Type 1} → statement M
 first-step-spec =
     tie.close
     (tie.spec
-    (λ c. search needs)
-    (λ c. search needs)
-    (λ c κs. search needs)
-    (λ c. search needs)
-    (λ c κs. search needs)
-    (λ c. search needs)
-    (λ c κs. search needs)
-    (λ c. search needs)
-    (λ c κs. search needs)
-    (λ c. search needs)
-    (λ c κs. search needs)
+    (search needs)
+    (search needs)
+    (search needs)
+    (search needs)
+    (search needs)
+    (search needs)
+    (search needs)
+    (search needs)
+    (search needs)
+    (search needs)
+    (search needs)
     returns
     returns-2
     returns-3

@@ -1,4 +1,4 @@
--- `steps::second_step` meets its contract.
+-- `steps::second_step` meets its contract: each case of the word is the row of `secondNext` that it names.
 use mathlib.Core.Path.{_∙_}
 use Rattle.steps.specs.Walks.{secondNext}
 use borrow.Author.Needs.{needs}
@@ -21,13 +21,13 @@ pub second-step-spec : {M : Type 1} → statement M
 second-step-spec =
     tie.close
     (tie.spec
-    (λ c. search needs)
-    (λ c κs. search needs)
-    (λ c. search needs)
-    (λ c κs. search needs)
-    (λ c. search needs)
-    (λ c. search needs)
-    (λ c κs. search needs)
+    (search needs)
+    (search needs)
+    (search needs)
+    (search needs)
+    (search needs)
+    (search needs)
+    (search needs)
     returns
     returns-2
     returns-3)

@@ -1,5 +1,6 @@
 -- `sums::verify_checksum` meets its contract.
 use mathlib.Core.Path.{ap, _∙_}
+use Rattle.types.proofs.Saying.{answers}
 use Rattle.access.specs.Lookup.{asking}
 use Rattle.access.specs.declared.Asking.the-variants.{Refused}
 use Rattle.access.proofs.Asks.{asking-some, asking-none}
@@ -10,20 +11,20 @@ use Rattle.sums.proofs.verify_checksum.Tie as tie
 
 returns : tie.Need-returns
 returns c =
-    ap Refused (c .at .ensures) ∙ asking-some _ (c .before .if1 .taken)
-    ∙ ap asking (checksum-misfit _ _ (c .before .before .fit .ensures) (c .before .if1 .taken))
+    answers (ap Refused (c .at .ensures) ∙ asking-some _ (c .before .if1 .taken)
+    ∙ ap asking (checksum-misfit _ _ (c .before .before .fit .ensures) (c .before .if1 .taken)))
 
 returns-2 : tie.Need-returns-2
 returns-2 c =
     let at-if1 = c .before .before .before in
-    ap Refused (c .at2 .ensures) ∙ asking-some _ (c .before .if2 .taken)
-    ∙ ap asking (checksum-sum _ _ (at-if1 .before .fit .ensures) (at-if1 .if1 .left) (c .before .before .sum-in .ensures))
+    answers (ap Refused (c .at2 .ensures) ∙ asking-some _ (c .before .if2 .taken)
+    ∙ ap asking (checksum-sum _ _ (at-if1 .before .fit .ensures) (at-if1 .if1 .left) (c .before .before .sum-in .ensures)))
 
 returns-3 : tie.Need-returns-3
 returns-3 c =
     let at-if1 = c .before .before in
-    asking-none _ (c .if2 .left)
-    ∙ ap asking (checksum-sum _ _ (at-if1 .before .fit .ensures) (at-if1 .if1 .left) (c .before .sum-in .ensures))
+    answers (asking-none _ (c .if2 .left)
+    ∙ ap asking (checksum-sum _ _ (at-if1 .before .fit .ensures) (at-if1 .if1 .left) (c .before .sum-in .ensures)))
 
 pub verify-checksum-spec : {M : Type 1} → statement M
 verify-checksum-spec =

@@ -1,4 +1,7 @@
--- `text::number` meets its contract.
+-- `text::number` meets its contract. The invariant, `Filling`: the digits of `rest` and then what stands behind place `from` of `d` are the digits of
+-- n, and those of `rest` have room up to that place.
+-- The measure is `rest`, which each turn divides by 10. A turn stores the last digit of `rest` (`fill-next`); after the last store the part from `from`
+-- on is the whole text (`fill-ends`).
 use mathlib.Core.Path.{ap, _∙_}
 use native.Mathlib.Omega.{arith}
 use borrow.Author.Needs.{needs}
@@ -17,22 +20,20 @@ loop-holds : tie.Need-loop-holds Inv-loop μ-loop
 loop-holds c = fill-begins _ _ (search needs) (search needs)
 
 sub-from : tie.Need-sub-from Inv-loop μ-loop
-sub-from c = fill-left _ _ _ _ (c .before .before .loop .inv) (search needs)
+sub-from c = fill-left (c .before .before .loop .inv) (search needs)
 
 loop-again : tie.Need-loop-again Inv-loop μ-loop
-loop-again c = fill-next _ _ _ _ _ (c .before .before .loop .inv) (search needs) (c .digit .ensures)
+loop-again c = fill-next (c .before .before .loop .inv) (search needs) (c .digit .ensures)
 
 part-put-end : tie.Need-part-put-end Inv-loop μ-loop
-part-put-end c =
-    let at-loop = c .before .before .before .before in
-    fill-size _ _ _ _ (at-loop .loop .inv)
+part-put-end c = fill-size _ (c .before .before .before .before .loop .inv)
 
 returns : tie.Need-returns Inv-loop μ-loop
 returns c =
-    let at-put = c .before .before in
-    let at-digit2 = at-put .before .before .before .before in
-    let e = fill-ends _ _ _ _ (at-digit2 .before .before .loop .inv) (search needs) (at-digit2 .digit2 .ensures) in
-    (at-put .put .ensures .0 ∙ ap (after _ _) e, at-put .put .ensures .1 ∙ ap (written _ _) e)
+    let put = c .before .before in
+    let stored = put .before .before .before .before in
+    let e = fill-ends _ (stored .before .before .loop .inv) (search needs) (stored .digit2 .ensures) in
+    (put .put .ensures .0 ∙ ap (after _ _) e, put .put .ensures .1 ∙ ap (written _ _) e)
 
 pub number-spec : {M : Type 1} → statement M
 number-spec =

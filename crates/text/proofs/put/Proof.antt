@@ -1,4 +1,5 @@
--- `text::put` meets its contract.
+-- `text::put` meets its contract. The invariant, `Putting`: all of `s` fits, and `out` is what it was with the first i bytes of `s` written at `at`.
+-- The measure is length s - i. Each turn writes byte i (`put-next`); what does not fit changes nothing (`put-full`).
 use Prim.Native.Nat.{_-_}
 use native.Mathlib.Omega.{arith}
 use borrow.Author.Needs.{needs}
@@ -20,13 +21,13 @@ returns-2 : tie.Need-returns-2 Inv-loop μ-loop
 returns-2 c = put-full _ _ _ (omega arith)
 
 loop-holds : tie.Need-loop-holds Inv-loop μ-loop
-loop-holds c = put-begins _ _ _ (omega arith)
+loop-holds c = put-begins (omega arith)
 
 loop-again : tie.Need-loop-again Inv-loop μ-loop
-loop-again c = put-next _ _ _ (c .before .before .loop .inv) (search needs)
+loop-again c = put-next (c .before .before .loop .inv) (search needs)
 
 returns-3 : tie.Need-returns-3 Inv-loop μ-loop
-returns-3 c = put-ends _ _ _ (c .before .loop .inv) (search needs)
+returns-3 c = put-ends (c .before .loop .inv) (search needs)
 
 pub put-spec : {M : Type 1} → statement M
 put-spec =

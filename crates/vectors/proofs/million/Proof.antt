@@ -1,4 +1,5 @@
 -- `vectors::million` meets its contract.
+-- The invariant: n is 1 to 131, so that a piece lies in `a` and is not empty. The measure: `left`, which each piece lowers.
 use Prim.Native.Nat.{_≤_}
 use native.Mathlib.Omega.{arith}
 use borrow.Author.Needs.{needs}
@@ -21,15 +22,15 @@ million-spec =
     (tie.spec
     Inv-loop
     μ-loop
-    (λ c κs. search needs)
-    (λ c. search needs)
-    (λ c κs. search needs)
-    (λ c. omega arith)
+    (search needs)
+    (search needs)
+    (search needs)
+    (search needs)
     slice-aggregate-update
-    (λ c κs. search needs)
-    (λ c. omega arith)
-    (λ c. omega arith)
-    (λ c. omega arith)
-    (λ c. omega arith)
-    (λ c κs. search needs)
-    (λ c. search needs))
+    (search needs)
+    (search needs)
+    (search needs)
+    (search needs)
+    (search needs)
+    (search needs)
+    (search needs))

@@ -1,4 +1,4 @@
--- `vectors::pattern` meets its contract.
+-- `vectors::pattern` meets its contract. The invariant: i ≤ 200, and p keeps its 200 bytes. The measure: the bytes left.
 use Prim.Native.Nat.{_≤_, _-_}
 use mathlib.Core.Path.{_≡_}
 use native.Mathlib.Omega.{arith}
@@ -22,12 +22,12 @@ pattern-spec =
     (tie.spec
     Inv-loop
     μ-loop
-    (λ c. search needs)
-    (λ c. omega arith)
-    (λ c. omega arith)
-    (λ c. omega arith)
-    (λ c. omega arith)
-    (λ c. omega arith)
-    (λ c. omega arith)
+    (search needs)
+    (search needs)
+    (search needs)
+    (search needs)
+    (search needs)
+    (search needs)
+    (search needs)
     loop-again
-    (λ c. search needs))
+    (search needs))

@@ -1,4 +1,4 @@
--- `walk::in_file` meets its contract.
+-- `walk::in_file` meets its contract: each case of the answer is the row of `answerIn` that it names.
 use Rattle.walk.specs.Walks.{answerIn}
 use borrow.Author.Needs.{needs}
 use Rattle.walk.proofs.in_file.Statement.{statement}
@@ -20,10 +20,10 @@ pub in-file-spec : {M : Type 1} → statement M
 in-file-spec =
     tie.close
     (tie.spec
-    (λ c. search needs)
-    (λ c. search needs)
-    (λ c κs. search needs)
-    (λ c. search needs)
+    (search needs)
+    (search needs)
+    (search needs)
+    (search needs)
     returns
     returns-2
     returns-3)

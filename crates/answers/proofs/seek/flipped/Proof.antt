@@ -1,3 +1,4 @@
+-- `answers::seek::flipped` meets its contract. The invariant: i ≤ 20, and x keeps its 20 bytes. The measure: the bytes left.
 use Prim.Native.Nat.{_≤_, _-_}
 use mathlib.Core.Path.{_≡_}
 use borrow.Author.Needs.{needs}

@@ -1,4 +1,6 @@
--- `ask::lookup::look` meets its contract.
+-- `ask::lookup::look` meets its contract. The invariant, `Looking`: the first k files open, `at` is where file k starts, `sum` is how many commits
+-- come before it, and what was seen, or else what the files from k on say, is what all say. The measure is how many files are left: each turn
+-- passes one.
 use Prim.Native.Nat.{_-_}
 use mathlib.Core.Path.{_≡_, refl, ap}
 use native.Mathlib.Omega.{arith}
@@ -17,86 +19,79 @@ Inv-loop chain list z n x k₀ at₀ sum₀ hit₀ k at sum hit = Looking z chai
 abbrev μ-loop : tie.MeasureT-loop
 μ-loop chain list z n x k₀ at₀ sum₀ hit₀ k at sum hit = n - k
 
--- what was cut is the file at hand, and how it opens
-cut : (c : tie.After-part Inv-loop μ-loop)
-    → (let start = c .before .before .before .before .before .before .before in
-    c .part .result .now ≡ partAt (start .args .z) (start .args .chain .now) (start .args .list .now) (c .before .before .before .loop .k))
-cut c =
-    let at-loop = c .before .before .before in
-    let start = at-loop .before .before .before .before in
-    part-is _ (start .pre) _
-    (c .before .before .loop-test .taken) (at-loop .loop .inv .along .place) (c .before .length-at .ensures) _ (c .part .ensures)
+-- what was cut in this turn is file k, and so is what was opened
+part-k : (c : tie.After-part Inv-loop μ-loop)
+    → (let turn = c .before .before in
+    let start = turn .before .before .before .before .before in
+    c .part .result .now ≡ partAt (start .args .z) (start .args .chain .now) (start .args .list .now) (turn .before .loop .k))
+part-k c =
+    let turn = c .before .before in
+    let start = turn .before .before .before .before .before in
+    part-is _ (start .pre) _ (turn .loop-test .taken) (turn .before .loop .inv .along .place) (c .before .length-at .ensures) _ (c .part .ensures)
 
-goes : (c : tie.After-open Inv-loop μ-loop) {v : Opening} → c .«open» .result ≡ v
-    → (let start = c .before .before .before .before .before .before .before .before in
-    openAt (start .args .z) (start .args .chain .now) (start .args .list .now) (c .before .before .before .before .loop .k) ≡ v)
-goes c {v} e =
-    open-is _ _ _ _ (cut (c .before)) (c .«open» .ensures) e
+file-k : (c : tie.After-open Inv-loop μ-loop) {v : Opening} → c .«open» .result ≡ v
+    → (let turn = c .before .before .before in
+    let start = turn .before .before .before .before .before in
+    openAt (start .args .z) (start .args .chain .now) (start .args .list .now) (turn .before .loop .k) ≡ v)
+file-k c e = open-is _ _ _ _ (part-k (c .before)) (c .«open» .ensures .is) e
 
 loop-holds : tie.Need-loop-holds Inv-loop μ-loop
-loop-holds c =
-    look-begins (c .before .before .before .pre) _ _ refl
+loop-holds c = look-begins (c .before .before .before .pre) _ _ refl
 
 returns : tie.Need-returns Inv-loop μ-loop
 returns c =
-    let at-o = c .before .before in
-    let at-loop-test = at-o .before .before .before .before .before in
-    let start = at-loop-test .before .before .before .before .before in
+    let opened = c .before .before .before .before in
+    let turn = opened .before .before .before in
+    let start = turn .before .before .before .before .before in
     rw (c .of-file .ensures)
-    (look-refused (start .pre) _ (at-loop-test .before .loop .inv) (at-loop-test .loop-test .taken)
-    (goes (at-o .before .before) (at-o .o .given .1)))
+    (look-refused (start .pre) _ (turn .before .loop .inv) (turn .loop-test .taken) (file-k opened (c .before .before .o .given .1)))
 
 noted-requires : tie.Need-noted-requires Inv-loop μ-loop
 noted-requires c κs =
-    let at-open = c .before .before .before in
-    let at-loop-test = at-open .before .before .before in
-    let start = at-loop-test .before .before .before .before .before in
-    look-fits (start .pre) _ (at-loop-test .before .loop .inv) (at-loop-test .loop-test .taken) (goes at-open (c .before .o2 .given .1)) _
+    let opened = c .before .before .before in
+    let turn = opened .before .before .before in
+    let start = turn .before .before .before .before .before in
+    look-fits (start .pre) _ (turn .before .loop .inv) (turn .loop-test .taken) (file-k opened (c .before .o2 .given .1)) _
 
 add-sum : tie.Need-add-sum Inv-loop μ-loop
 add-sum c =
-    let at-o2 = c .before .before .before in
-    let at-loop-test = at-o2 .before .before .before .before .before in
-    let start = at-loop-test .before .before .before .before .before in
-    omega (
-      arith,
-      along-room _ _ _ (start .pre) _ _ (at-loop-test .before .loop .inv .along) (at-loop-test .loop-test .taken) _
-          (goes (at-o2 .before .before) (at-o2 .o2 .given .1)),
-    )
+    let opened = c .before .before .before .before .before in
+    let turn = opened .before .before .before in
+    let start = turn .before .before .before .before .before in
+    let f-k = file-k opened (c .before .before .before .o2 .given .1) in
+    omega (arith, along-room _ _ _ (start .pre) _ _ (turn .before .loop .inv .along) (turn .loop-test .taken) _ f-k)
 
 add-at : tie.Need-add-at Inv-loop μ-loop
 add-at c =
-    let at-o2 = c .before .before .before in
-    let at-part = at-o2 .before .before .before in
-    let at-loop = at-part .before .before .before in
-    let start = at-loop .before .before .before .before in
+    let opened = c .before .before .before .before .before in
+    let turn = opened .before .before .before in
+    let start = turn .before .before .before .before .before in
+    let f-k = file-k opened (c .before .before .before .o2 .given .1) in
     omega (
       arith,
-      along-room _ _ _ (start .pre) _ _ (at-loop .loop .inv .along) (at-part .before .before .loop-test .taken) _
-          (goes (at-o2 .before .before) (at-o2 .o2 .given .1)),
-      ap length (cut at-part),
+      along-room _ _ _ (start .pre) _ _ (turn .before .loop .inv .along) (turn .loop-test .taken) _ f-k,
+      ap length (part-k (opened .before)),
     )
 
 add-k : tie.Need-add-k Inv-loop μ-loop
 add-k c =
-    let at-loop-test = c .before .before .before .before .before .before .before .before in
-    let start = at-loop-test .before .before .before .before .before in
-    omega (arith, at-loop-test .loop-test .taken, start .pre .few)
+    let opened = c .before .before .before .before .before in
+    let turn = opened .before .before .before in
+    omega (arith, turn .loop-test .taken, turn .before .before .before .before .before .pre .few)
 
 loop-less : tie.Need-loop-less Inv-loop μ-loop
 loop-less c =
-    let at-loop-test = c .before .before .before .before .before .before .before .before in
-    omega (arith, at-loop-test .loop-test .taken)
+    let opened = c .before .before .before .before .before in
+    omega (arith, opened .before .before .before .loop-test .taken)
 
 loop-again : tie.Need-loop-again Inv-loop μ-loop
 loop-again c =
-    let at-o2 = c .before .before .before in
-    let at-part = at-o2 .before .before .before in
-    let at-loop = at-part .before .before .before in
-    let start = at-loop .before .before .before .before in
+    let opened = c .before .before .before .before .before in
+    let turn = opened .before .before .before in
+    let start = turn .before .before .before .before .before in
     rw (c .before .noted .ensures)
-    (look-next (start .pre) _ (at-loop .loop .inv) (at-part .before .before .loop-test .taken)
-    (goes (at-o2 .before .before) (at-o2 .o2 .given .1)) (cut at-part))
+    (look-next (start .pre) _ (turn .before .loop .inv) (turn .loop-test .taken)
+    (file-k opened (c .before .before .before .o2 .given .1)) (part-k (opened .before)))
 
 returns-2 : tie.Need-returns-2 Inv-loop μ-loop
 returns-2 c =

@@ -12,25 +12,25 @@ returns c = noted-seen _ _ _ (c .if1 .taken)
 
 add-pos : tie.Need-add-pos
 add-pos c =
-    let at-p = c .before .before in
-    let start = at-p .before .before .before .before .before .before in
-    omega (arith, start .pre (at-p .p .given .0 .0 .0) (sym (at-p .before .before .lookup .ensures .0) ∙ at-p .p .given .1))
+    let hit = c .before .before in
+    let start = hit .before .before .before .before .before .before in
+    omega (arith, start .pre (hit .p .given .0 .0 .0) (sym (hit .before .before .lookup .ensures .0 .is) ∙ hit .p .given .1))
 
 returns-2 : tie.Need-returns-2
 unfolding noteFile
 returns-2 c =
-    let at-lookup = c .before .before .before .before in
-    noted-new _ _ _ (at-lookup .before .if1 .left) (sym (at-lookup .lookup .ensures .0) ∙ c .before .before .p .given .1)
+    let looked = c .before .before .before .before in
+    noted-new _ _ _ (looked .before .if1 .left) (sym (looked .lookup .ensures .0 .is) ∙ c .before .before .p .given .1)
 
 returns-3 : tie.Need-returns-3
 unfolding noteFile
 returns-3 c =
-    noted-new _ _ _ (c .before .before .before .if1 .left) (sym (c .before .before .lookup .ensures .0) ∙ c .enum-told .given .1)
+    noted-new _ _ _ (c .before .before .before .if1 .left) (sym (c .before .before .lookup .ensures .0 .is) ∙ c .enum-told .given .1)
 
 returns-4 : tie.Need-returns-4
 unfolding noteFile
 returns-4 c =
-    noted-new _ _ _ (c .before .before .before .if1 .left) (sym (c .before .before .lookup .ensures .0) ∙ c .enum-told2 .given .1)
+    noted-new _ _ _ (c .before .before .before .if1 .left) (sym (c .before .before .lookup .ensures .0 .is) ∙ c .enum-told2 .given .1)
 
 pub noted-spec : {M : Type 1} → statement M
 noted-spec =

@@ -1,5 +1,6 @@
 -- `ask::positions::commit_at` meets its contract.
 use mathlib.Core.Path.{sym, _∙_}
+use Rattle.types.proofs.Saying.{answers}
 use Rattle.ask.proofs.Reading.{commit-none, commit-part}
 use borrow.Author.Needs.{needs}
 use Rattle.ask.proofs.positions.commit_at.Statement.{statement}
@@ -7,15 +8,15 @@ use Rattle.ask.proofs.positions.commit_at.Tie as tie
 
 returns : tie.Need-returns
 returns c =
-    let at-locate = c .before .before .before in
-    commit-none 32 (at-locate .before .before .before .args .chain) _ _ (sym (at-locate .locate .ensures) ∙ c .before .q .given .1)
+    let located = c .before .before .before in
+    answers (commit-none 32 (located .before .before .before .args .chain) _ _ (sym (located .locate .ensures .is) ∙ c .before .q .given .1))
 
 returns-2 : tie.Need-returns-2
 returns-2 c =
-    let at-part = c .before .before .before in
-    let at-spot = at-part .before .before in
-    commit-part 32 _ _ _ (sym (at-spot .before .before .locate .ensures) ∙ at-spot .spot .given .1) (at-part .part .ensures)
-    (c .commit-at .ensures)
+    let cut = c .before .before .before in
+    let spotted = cut .before .before in
+    answers (commit-part 32 _ _ _ (sym (spotted .before .before .locate .ensures .is) ∙ spotted .spot .given .1) (cut .part .ensures)
+    (c .commit-at .ensures .is))
 
 pub commit-at-spec : {M : Type 1} → statement M
 commit-at-spec =

@@ -1,5 +1,6 @@
 -- `ask::positions::which` meets its contract.
 use mathlib.Core.Path.{sym, _∙_}
+use Rattle.types.proofs.Saying.{answers}
 use Rattle.ask.proofs.Reading.{which-none, which-fine}
 use borrow.Author.Needs.{needs}
 use Rattle.ask.proofs.positions.which.Statement.{statement}
@@ -7,13 +8,13 @@ use Rattle.ask.proofs.positions.which.Tie as tie
 
 returns : tie.Need-returns
 returns c =
-    let at-locate = c .before .before .before in
-    which-none 32 (at-locate .before .before .before .args .chain) _ _ (sym (at-locate .locate .ensures) ∙ c .before .q .given .1)
+    let located = c .before .before .before in
+    answers (which-none 32 (located .before .before .before .args .chain) _ _ (sym (located .locate .ensures .is) ∙ c .before .q .given .1))
 
 returns-2 : tie.Need-returns-2
 returns-2 c =
     let start = c .before .before .before .before .before in
-    which-fine 32 (start .args .chain) _ _ (sym (c .before .before .locate .ensures) ∙ c .enum-told .given .1)
+    answers (which-fine 32 (start .args .chain) _ _ (sym (c .before .before .locate .ensures .is) ∙ c .enum-told .given .1))
 
 pub which-spec : {M : Type 1} → statement M
 which-spec =

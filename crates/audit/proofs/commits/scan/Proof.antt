@@ -77,7 +77,7 @@ told : (c : tie.After-attempt Inv-loop μ-loop) (z : ℕ) (l : List ℕ)
 told c z l p h =
     let turn = c .before .before in
     commit-told z _ l _ (file (cuts turn) z l p h) _ (turn .loop-test .taken) (parts (cuts turn))
-    (cut (cuts turn) ∙ ap (λ (b : List ℕ). partsOf b (start (cuts turn) .args .f)) (bytes (cuts turn) z l p h)) (c .before .row-in .ensures)
+    (cut (cuts turn) ∙ ap (λ (b : List ℕ). partsOf b (start (cuts turn) .args .f)) (bytes (cuts turn) z l p h)) (c .before .row-in .ensures .is)
     (c .attempt .ensures z l p h)
 
 -- the width is narrow

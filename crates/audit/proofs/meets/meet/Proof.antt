@@ -37,7 +37,7 @@ returns : tie.Need-returns Inv-loop μ-loop
 returns c =
     let step = c .before .before .before .before in
     let turn = step .before .before .before in
-    λ z l p h. met-out _ _ _ _ _ _ _ (rest-parent _ _ _ _ _ (step .before .before .step-in .ensures) (step .met .given .1))
+    λ z l p h. met-out _ _ _ _ _ _ _ (rest-parent _ _ _ _ _ (step .before .before .step-in .ensures .is) (step .met .given .1))
     (omega (arith, c .if1 .taken, next-limit z _ l p _ h)) ∙ turn .loop .inv .0 z l p h
 
 gen-at-requires : tie.Need-gen-at-requires Inv-loop μ-loop
@@ -53,7 +53,7 @@ add-parents c =
     let start = turn .before .before .before .before .before in
     omega (
       arith,
-      next-less _ _ _ _ _ (step .before .before .step-in .ensures) (step .met .given .1),
+      next-less _ _ _ _ _ (step .before .before .step-in .ensures .is) (step .met .given .1),
       turn .loop .inv .1,
       start .good .1 .1 .1 .1 .1 .0,
     )
@@ -61,7 +61,7 @@ add-parents c =
 loop-less : tie.Need-loop-less Inv-loop μ-loop
 loop-less c =
     let step = c .before .before .before .before .before .before in
-    next-less _ _ _ _ _ (step .before .before .step-in .ensures) (step .met .given .1)
+    next-less _ _ _ _ _ (step .before .before .step-in .ensures .is) (step .met .given .1)
 
 loop-again : tie.Need-loop-again Inv-loop μ-loop
 loop-again c =
@@ -69,21 +69,21 @@ loop-again c =
     let turn = step .before .before .before in
     let x = step .before .before .step-in in (
       λ z l p h. let g = c .before .gen-at .ensures z l p h in
-          met-in _ _ _ _ _ _ _ (rest-parent _ _ _ _ _ (x .ensures) (step .met .given .1))
+          met-in _ _ _ _ _ _ _ (rest-parent _ _ _ _ _ (x .ensures .is) (step .met .given .1))
           (omega (arith, c .before .before .if1 .left, next-limit z _ l p _ h))
           (⊎-elim (λ w. omega arith) (λ w. omega arith) (c .if2 .came)) ∙ turn .loop .inv .0 z l p h,
-      omega (arith, next-less _ _ _ _ _ (x .ensures) (step .met .given .1), turn .loop .inv .1),
+      omega (arith, next-less _ _ _ _ _ (x .ensures .is) (step .met .given .1), turn .loop .inv .1),
     )
 
 returns-2 : tie.Need-returns-2 Inv-loop μ-loop
 returns-2 c =
     let step = c .before .before .before in
-    λ z l p h. met-end _ _ _ _ _ _ (rest-stop _ _ _ _ _ (step .step-in .ensures) (c .before .met2 .given .1)) ∙ step .before .loop .inv .0 z l p h
+    λ z l p h. met-end _ _ _ _ _ _ (rest-stop _ _ _ _ _ (step .step-in .ensures .is) (c .before .met2 .given .1)) ∙ step .before .loop .inv .0 z l p h
 
 returns-3 : tie.Need-returns-3 Inv-loop μ-loop
 returns-3 c =
     let step = c .before .before in
-    λ z l p h. met-end _ _ _ _ _ 0 (rest-end _ _ _ _ _ (step .step-in .ensures) (c .enum-told .given .1)) ∙ step .before .loop .inv .0 z l p h
+    λ z l p h. met-end _ _ _ _ _ 0 (rest-end _ _ _ _ _ (step .step-in .ensures .is) (c .enum-told .given .1)) ∙ step .before .loop .inv .0 z l p h
 
 pub meet-spec : {M : Type 1} → statement M
 meet-spec =

@@ -31,7 +31,7 @@ cut c =
 file-k : (c : tie.After-open Inv-loop μ-loop) {v : Opening} → c .«open» .result ≡ v
     → (let turn = c .before .before .before in let start = turn .before .before .before .before in
     openAt (start .args .z) (start .args .chain .now) (start .args .list .now) (turn .before .loop .k) ≡ v)
-file-k c e = open-is _ _ _ _ (cut (c .before)) (c .«open» .ensures) e
+file-k c e = open-is _ _ _ _ (cut (c .before)) (c .«open» .ensures .is) e
 
 -- its sums fit, and so do the places in the table
 room : (c : tie.After-known-told2 Inv-loop μ-loop)

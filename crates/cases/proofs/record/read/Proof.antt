@@ -1,4 +1,4 @@
--- `cases::record::read` meets its contract.
+-- `cases::record::read` meets its contract: what was read takes the place of as many bytes, so that `buf` keeps its length, and n is at most it.
 use native.Mathlib.Omega.{arith}
 use lib.ListN.{length-take, length-append}
 use borrow.Author.Needs.{needs}

@@ -1,4 +1,4 @@
--- `chains::list::listed` meets its contract.
+-- `chains::list::listed` meets its contract: the part that is lent has `size` entries, at most 80 of 81.
 use native.Mathlib.Omega.{arith}
 use lib.ListN.{length-take}
 use borrow.Author.Needs.{needs}
@@ -9,10 +9,10 @@ pub listed-spec : {M : Type 1} → statement M
 listed-spec =
     tie.close
     (tie.spec
-    (λ c. search needs)
-    (λ c. search needs)
+    (search needs)
+    (search needs)
     (λ c. simp length-take (omega arith))
-    (λ c κs. search needs)
-    (λ c κs. search needs)
-    (λ c κs. search needs)
-    (λ c. search needs))
+    (search needs)
+    (search needs)
+    (search needs)
+    (search needs))

@@ -1,4 +1,4 @@
--- `chains::whole::seeks` meets its contract.
+-- `chains::whole::seeks` meets its contract. The invariant: i ≤ n. The measure: the positions left.
 use Prim.Native.Nat.{_≤_, _-_}
 use borrow.Author.Needs.{needs}
 use Rattle.chains.proofs.whole.seeks.Statement.{statement}
@@ -16,10 +16,10 @@ seeks-spec =
     (tie.spec
     Inv-loop
     μ-loop
-    (λ c. search needs)
-    (λ c κs. search needs)
-    (λ c. search needs)
-    (λ c. search needs)
-    (λ c. search needs)
-    (λ c κs. search needs)
-    (λ c. search needs))
+    (search needs)
+    (search needs)
+    (search needs)
+    (search needs)
+    (search needs)
+    (search needs)
+    (search needs))

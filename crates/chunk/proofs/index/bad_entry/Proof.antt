@@ -1,11 +1,12 @@
--- `chunk::index::bad_entry` meets its contract.
+-- `chunk::index::bad_entry` meets its contract. The invariant: i ≤ c, and the search for a bad entry among all c is the search from i on.
+-- The measure is c - i. Each turn passes an entry that breaks no rule, or stops at one that does (the rules `searching`).
 use Prim.Native.Nat.{_-_, _≤_}
 use mathlib.Core.Path.{_≡_}
 use native.Mathlib.Omega.{arith}
 use borrow.Author.Needs.{needs}
 use Rattle.words.specs.First.{first}
 use Rattle.chunk.specs.Index.{bad}
-use Rattle.chunk.proofs.Entries.{searching}
+use Rattle.words.proofs.Searches.{searching}
 use Rattle.chunk.proofs.index.bad_entry.Statement.{statement}
 use Rattle.chunk.proofs.index.bad_entry.Tie as tie
 
@@ -18,16 +19,12 @@ abbrev μ-loop : tie.MeasureT-loop
 loop-holds : tie.Need-loop-holds Inv-loop μ-loop
 loop-holds c = (omega arith, search searching)
 
-returns : tie.Need-returns Inv-loop μ-loop
-returns c = search searching
-
 loop-again : tie.Need-loop-again Inv-loop μ-loop
+unfolding bad
 loop-again c = (omega arith, search searching)
 
-returns-2 : tie.Need-returns-2 Inv-loop μ-loop
-returns-2 c = search searching
-
 pub bad-entry-spec : {M : Type 1} → statement M
+unfolding bad
 bad-entry-spec =
     tie.close
     (tie.spec
@@ -35,8 +32,8 @@ bad-entry-spec =
     μ-loop
     loop-holds
     (λ c κs. search needs)
-    returns
+    (λ c. search searching)
     (λ c. omega arith)
     (λ c. omega arith)
     loop-again
-    returns-2)
+    (λ c. search searching))

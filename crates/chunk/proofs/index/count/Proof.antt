@@ -1,4 +1,4 @@
--- `chunk::index::count` meets its contract.
+-- `chunk::index::count` meets its contract: past the end a byte counts as 0.
 use mathlib.Core.Path.{refl, sym}
 use native.Mathlib.Omega.{arith}
 use lib.ListN.{List·getD-eq-default}

@@ -1,11 +1,11 @@
--- `chunk::index::entry_rule` meets its contract.
+-- `chunk::index::entry_rule` meets its contract: each return is the row of the table that its branch names.
 use Prim.Native.Nat.{_+_, _*_}
 use mathlib.Core.Path.{_≡_}
 use lib.ListN.{length}
 use denote.Ref.{now}
 use Rattle.words.proofs.Rows.{rows}
 use Rattle.chunk.specs.Index.{chunks, offAt, rangeRule, entryRule}
-use Rattle.chunk.proofs.Entries.{searching}
+use Rattle.chunk.proofs.Entries.{seen-yes, seen-no}
 use borrow.Author.Needs.{needs}
 use Rattle.chunk.proofs.index.entry_rule.Statement.{statement}
 use Rattle.chunk.proofs.index.entry_rule.Tie as tie
@@ -16,16 +16,16 @@ returns c = search rows
 
 returns-2 : tie.Need-returns-2
 unfolding entryRule
-returns-2 c = search (rows, searching, c .before .before .if1 .left) depth 20
+returns-2 c = search (rows, seen-yes, c .before .before .if1 .left) depth 20
 
 returns-3 : tie.Need-returns-3
 unfolding entryRule
 returns-3 c =
-    let at-if1 = c .before .before .before .before .before in
-    let a = at-if1 .before .before .before .args in
+    let named = c .before .before .before .before .before in
+    let a = named .before .before .before .args in
     let l = now (a .s) in
     let r : c .range-rule .result ≡ rangeRule (length l) (20 + 12 * chunks l) (offAt l (a .i)) (offAt l (a .i + 1)) = cc in
-    search (rows, searching, at-if1 .if1 .left) depth 20
+    search (rows, seen-no, named .if1 .left) depth 20
 
 pub entry-rule-spec : {M : Type 1} → statement M
 entry-rule-spec =

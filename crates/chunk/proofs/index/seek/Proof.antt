@@ -1,10 +1,11 @@
--- `chunk::index::seek` meets its contract.
+-- `chunk::index::seek` meets its contract. The invariant: i ≤ n, and the search for the id x among all n entries is the search from i on.
+-- The measure is n - i. Each turn passes an entry with another id, or stops at one with x (the rules `searching`).
 use Prim.Native.Nat.{_-_, _≤_}
 use mathlib.Core.Path.{_≡_}
 use native.Mathlib.Omega.{arith}
 use Rattle.words.specs.First.{first}
 use Rattle.chunk.specs.Index.{isAt}
-use Rattle.chunk.proofs.Entries.{searching}
+use Rattle.words.proofs.Searches.{searching}
 use Rattle.chunk.proofs.index.seek.Statement.{statement}
 use Rattle.chunk.proofs.index.seek.Tie as tie
 
@@ -17,16 +18,12 @@ abbrev μ-loop : tie.MeasureT-loop
 loop-holds : tie.Need-loop-holds Inv-loop μ-loop
 loop-holds c = (omega arith, search searching)
 
-returns : tie.Need-returns Inv-loop μ-loop
-returns c = search searching
-
 loop-again : tie.Need-loop-again Inv-loop μ-loop
+unfolding isAt
 loop-again c = (omega arith, search (searching, c .if1 .left))
 
-returns-2 : tie.Need-returns-2 Inv-loop μ-loop
-returns-2 c = search searching
-
 pub seek-spec : {M : Type 1} → statement M
+unfolding isAt
 seek-spec =
     tie.close
     (tie.spec
@@ -34,8 +31,8 @@ seek-spec =
     μ-loop
     loop-holds
     (λ c κs. omega arith)
-    returns
+    (λ c. search searching)
     (λ c. omega arith)
     (λ c. omega arith)
     loop-again
-    returns-2)
+    (λ c. search searching))

@@ -1,4 +1,4 @@
--- `exports::single::jampreso_file_commit` meets its contract.
+-- `exports::single::jampreso_file_commit` meets its contract: the image of what `commit_at` answers of the record's file.
 use mathlib.Core.Path.{ap, _∙_}
 use Rattle.flat.specs.Images.{flatCommit}
 use borrow.Author.Needs.{needs}
@@ -6,12 +6,7 @@ use Rattle.exports.proofs.single.jampreso_file_commit.Statement.{statem
 use Rattle.exports.proofs.single.jampreso_file_commit.Tie as tie
 
 returns : tie.Need-returns
-returns c = rw (← c .before .before .file-of .ensures) (c .commit-flat .ensures ∙ ap flatCommit (c .before .commit-at .ensures))
+returns c = rw (← c .before .before .file-of .ensures) (c .commit-flat .ensures ∙ ap flatCommit (c .before .commit-at .ensures .is))
 
 pub jampreso-file-commit-spec : {M : Type 1} → statement M
-jampreso-file-commit-spec =
-    tie.close (tie.spec
-    (λ c κs. search needs)
-    (λ c κs. search needs)
-    (λ c κs. search needs)
-    returns)
+jampreso-file-commit-spec = tie.close (tie.spec (search needs) (search needs) (search needs) returns)

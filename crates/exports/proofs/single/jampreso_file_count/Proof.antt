@@ -1,4 +1,4 @@
--- `exports::single::jampreso_file_count` meets its contract.
+-- `exports::single::jampreso_file_count` meets its contract: the image of what `count_at` answers of the record's file.
 use mathlib.Core.Path.{ap, _∙_}
 use Rattle.flat.specs.Images.{flatTotal}
 use borrow.Author.Needs.{needs}
@@ -6,12 +6,7 @@ use Rattle.exports.proofs.single.jampreso_file_count.Statement.{stateme
 use Rattle.exports.proofs.single.jampreso_file_count.Tie as tie
 
 returns : tie.Need-returns
-returns c = rw (← c .before .before .file-of .ensures) (c .total-flat .ensures ∙ ap flatTotal (c .before .count-at .ensures))
+returns c = rw (← c .before .before .file-of .ensures) (c .total-flat .ensures ∙ ap flatTotal (c .before .count-at .ensures .is))
 
 pub jampreso-file-count-spec : {M : Type 1} → statement M
-jampreso-file-count-spec =
-    tie.close (tie.spec
-    (λ c κs. search needs)
-    (λ c κs. search needs)
-    (λ c κs. search needs)
-    returns)
+jampreso-file-count-spec = tie.close (tie.spec (search needs) (search needs) (search needs) returns)

@@ -1,4 +1,4 @@
--- `exports::single::jampreso_file_date` meets its contract.
+-- `exports::single::jampreso_file_date` meets its contract: the image of what `date_at` answers of the record's file.
 use mathlib.Core.Path.{ap, _∙_}
 use Rattle.flat.specs.Images.{flatMark}
 use borrow.Author.Needs.{needs}
@@ -6,13 +6,7 @@ use Rattle.exports.proofs.single.jampreso_file_date.Statement.{statemen
 use Rattle.exports.proofs.single.jampreso_file_date.Tie as tie
 
 returns : tie.Need-returns
-returns c = rw (← c .before .before .file-of .ensures) (c .mark-flat .ensures ∙ ap flatMark (c .before .date-at .ensures))
+returns c = rw (← c .before .before .file-of .ensures) (c .mark-flat .ensures ∙ ap flatMark (c .before .date-at .ensures .is))
 
 pub jampreso-file-date-spec : {M : Type 1} → statement M
-jampreso-file-date-spec =
-    tie.close
-    (tie.spec
-    (λ c κs. search needs)
-    (λ c κs. search needs)
-    (λ c κs. search needs)
-    returns)
+jampreso-file-date-spec = tie.close (tie.spec (search needs) (search needs) (search needs) returns)

@@ -1,4 +1,4 @@
--- `exports::single::jampreso_file_step` meets its contract.
+-- `exports::single::jampreso_file_step` meets its contract: the image of the step, and its phase stands for the next (`stepped`).
 use mathlib.Core.Path.{ap, _∙_}
 use Rattle.flat.specs.Images.{flatStepped}
 use Rattle.flat.proofs.Backs.{stepped}
@@ -8,15 +8,15 @@ use Rattle.exports.proofs.single.jampreso_file_step.Tie as tie
 
 returns : tie.Need-returns
 returns c =
-    rw (← c .before .before .before .file-of .ensures, ← c .before .before .phase-of .ensures)
-    (stepped _ (c .stepped-flat .ensures ∙ ap flatStepped (c .before .step-at .ensures)))
+    rw (← c .before .before .before .file-of .ensures, ← c .before .before .phase-of .ensures .is)
+    (stepped _ (c .stepped-flat .ensures ∙ ap flatStepped (c .before .step-at .ensures .is)))
 
 pub jampreso-file-step-spec : {M : Type 1} → statement M
 jampreso-file-step-spec =
     tie.close
     (tie.spec
-    (λ c κs. search needs)
-    (λ c κs. search needs)
-    (λ c κs. search needs)
-    (λ c κs. search needs)
+    (search needs)
+    (search needs)
+    (search needs)
+    (search needs)
     returns)

@@ -1,4 +1,4 @@
--- `exports::single::jampreso_file_traverse` meets its contract.
+-- `exports::single::jampreso_file_traverse` meets its contract: the image of what `traverse` answers.
 use mathlib.Core.Path.{ap, _∙_}
 use Rattle.flat.specs.Images.{flatTraversal}
 use borrow.Author.Needs.{needs}
@@ -6,12 +6,7 @@ use Rattle.exports.proofs.single.jampreso_file_traverse.Statement.{stat
 use Rattle.exports.proofs.single.jampreso_file_traverse.Tie as tie
 
 returns : tie.Need-returns
-returns c = c .traversal-flat .ensures ∙ ap flatTraversal (c .before .traverse .ensures)
+returns c = c .traversal-flat .ensures ∙ ap flatTraversal (c .before .traverse .ensures .is)
 
 pub jampreso-file-traverse-spec : {M : Type 1} → statement M
-jampreso-file-traverse-spec =
-    tie.close
-    (tie.spec
-    (λ c κs. search needs)
-    (λ c κs. search needs)
-    returns)
+jampreso-file-traverse-spec = tie.close (tie.spec (search needs) (search needs) returns)

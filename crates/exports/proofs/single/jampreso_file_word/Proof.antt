@@ -1,4 +1,4 @@
--- `exports::single::jampreso_file_word` meets its contract.
+-- `exports::single::jampreso_file_word` meets its contract: the image of what `word_at` answers of the record's file from that phase.
 use mathlib.Core.Path.{ap, _∙_}
 use Rattle.flat.specs.Images.{flatMark}
 use borrow.Author.Needs.{needs}
@@ -7,15 +7,15 @@ use Rattle.exports.proofs.single.jampreso_file_word.Tie as tie
 
 returns : tie.Need-returns
 returns c =
-    rw (← c .before .before .before .file-of .ensures, ← c .before .before .phase-of .ensures)
-    (c .mark-flat .ensures ∙ ap flatMark (c .before .word-at .ensures .0))
+    rw (← c .before .before .before .file-of .ensures, ← c .before .before .phase-of .ensures .is)
+    (c .mark-flat .ensures ∙ ap flatMark (c .before .word-at .ensures .0 .is))
 
 pub jampreso-file-word-spec : {M : Type 1} → statement M
 jampreso-file-word-spec =
     tie.close
     (tie.spec
-    (λ c κs. search needs)
-    (λ c κs. search needs)
-    (λ c κs. search needs)
-    (λ c κs. search needs)
+    (search needs)
+    (search needs)
+    (search needs)
+    (search needs)
     returns)

@@ -1,4 +1,4 @@
--- `exports::single::jampreso_name` meets its contract.
+-- `exports::single::jampreso_name` meets its contract: the image of what `read` answers.
 use mathlib.Core.Path.{ap}
 use Rattle.flat.specs.Images.{flatName}
 use borrow.Author.Needs.{needs}
@@ -9,6 +9,4 @@ returns : tie.Need-returns
 returns c = ap flatName (c .before .read .ensures)
 
 pub jampreso-name-spec : {M : Type 1} → statement M
-jampreso-name-spec = tie.close (tie.spec
-    (λ c κs. search needs)
-    returns)
+jampreso-name-spec = tie.close (tie.spec (search needs) returns)

@@ -1,4 +1,4 @@
--- `exports::whole::jampreso_door` meets its contract.
+-- `exports::whole::jampreso_door` meets its contract: the image of the step, and its phase stands for the next (`walked`).
 use denote.Ref.{now}
 use mathlib.Core.Path.{ap, _∙_}
 use Rattle.walk.specs.Walks.{stepOf}
@@ -14,13 +14,8 @@ returns c =
     walked 32 _ _ _
     (c .walked-flat .ensures
     ∙ ap flatWalked
-    (c .before .through-door .ensures
+    (c .before .through-door .ensures .is
     ∙ ap (stepOf 32 (now (start .args .chain)) (now (start .args .list))) (c .before .before .walk-at .ensures)))
 
 pub jampreso-door-spec : {M : Type 1} → statement M
-jampreso-door-spec =
-    tie.close (tie.spec
-    (λ c κs. search needs)
-    (λ c κs. search needs)
-    (λ c κs. search needs)
-    returns)
+jampreso-door-spec = tie.close (tie.spec (search needs) (search needs) (search needs) returns)

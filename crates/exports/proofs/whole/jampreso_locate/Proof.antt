@@ -1,4 +1,4 @@
--- `exports::whole::jampreso_locate` meets its contract.
+-- `exports::whole::jampreso_locate` meets its contract: the image of what `locate` answers.
 use mathlib.Core.Path.{ap, _∙_}
 use Rattle.flat.specs.Images.{flatLocated}
 use borrow.Author.Needs.{needs}
@@ -6,12 +6,7 @@ use Rattle.exports.proofs.whole.jampreso_locate.Statement.{statement}
 use Rattle.exports.proofs.whole.jampreso_locate.Tie as tie
 
 returns : tie.Need-returns
-returns c = c .located-flat .ensures ∙ ap flatLocated (c .before .locate .ensures)
+returns c = c .located-flat .ensures ∙ ap flatLocated (c .before .locate .ensures .is)
 
 pub jampreso-locate-spec : {M : Type 1} → statement M
-jampreso-locate-spec =
-    tie.close
-    (tie.spec
-    (λ c κs. search needs)
-    (λ c κs. search needs)
-    returns)
+jampreso-locate-spec = tie.close (tie.spec (search needs) (search needs) returns)

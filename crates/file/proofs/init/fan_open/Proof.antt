@@ -1,8 +1,6 @@
--- `file::init::fan_open` meets its contract.
-use Prim.Native.Nat.{ℕ}
-use mathlib.Core.Path.{_≡_, ap, _∙_}
-use denote.Ref.{now}
-use Rattle.file.specs.Table.{last, countRules, fileOf, fanned}
+-- `file::init::fan_open` meets its contract: stage by stage, with the count that was read from the last fan entry.
+use mathlib.Core.Path.{ap}
+use Rattle.file.specs.Table.{fanned}
 use Rattle.file.specs.declared.Opening.the-variants.{Open}
 use Rattle.file.proofs.Stages.{stages}
 use borrow.Author.Needs.{needs}
@@ -16,23 +14,15 @@ returns c = search stages
 returns-2 : tie.Need-returns-2
 unfolding fanned
 returns-2 c =
-    let at-be32 = c .before .before .before in
-    let start = at-be32 .before .before .before .before in
-    let a = start .args in
-    let e : c .before .before .count-rules .result ≡ countRules (a .w) (last (now (a .p))) (a .x) =
-    c .before .before .count-rules .ensures ∙ ap (λ (n : ℕ). countRules (a .w) n (a .x)) (at-be32 .be32 .ensures) in
+    let e = rw (c .before .before .before .be32 .ensures) at (c .before .before .count-rules .ensures) in
     search stages
 
 returns-3 : tie.Need-returns-3
 unfolding fanned
 returns-3 c =
-    let at-be32 = c .before .before .before in
-    let start = at-be32 .before .before .before .before in
-    let a = start .args in
-    let e : c .before .before .count-rules .result ≡ countRules (a .w) (last (now (a .p))) (a .x) =
-    c .before .before .count-rules .ensures ∙ ap (λ (n : ℕ). countRules (a .w) n (a .x)) (at-be32 .be32 .ensures) in
-    let f : Open (c .file-of .result) ≡ Open (fileOf (a .w) (a .b) (a .x) (last (now (a .p)))) =
-    ap Open (c .file-of .ensures ∙ ap (fileOf (a .w) (a .b) (a .x)) (at-be32 .be32 .ensures)) in
+    let read = c .before .before .before .be32 .ensures in
+    let e = rw read at (c .before .before .count-rules .ensures) in
+    let f = rw read at (ap Open (c .file-of .ensures)) in
     search stages
 
 pub fan-open-spec : {M : Type 1} → statement M

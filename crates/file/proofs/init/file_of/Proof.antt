@@ -1,4 +1,4 @@
--- `file::init::file_of` meets its contract.
+-- `file::init::file_of` meets its contract: each start is what its own call ensures.
 use Rattle.file.specs.Table.{fileOf}
 use borrow.Author.Needs.{needs}
 use Rattle.file.proofs.init.file_of.Statement.{statement}

@@ -1,4 +1,4 @@
--- `file::init::locate` meets its contract.
+-- `file::init::locate` meets its contract: each field is what its own `find` ensures.
 use Rattle.file.specs.Table.{indexOf}
 use borrow.Author.Needs.{needs}
 use Rattle.file.proofs.init.locate.Statement.{statement}
@@ -7,13 +7,13 @@ use Rattle.file.proofs.init.locate.Tie as tie
 returns : tie.Need-returns
 unfolding indexOf
 returns c =
-    let at-find3 = c .before .before in
+    let third = c .before .before in
     simp (
-      c .find5 .ensures,
-      c .before .find4 .ensures,
-      at-find3 .find3 .ensures,
-      at-find3 .before .find2 .ensures,
-      at-find3 .before .before .find .ensures,
+      c .find5 .ensures .is,
+      c .before .find4 .ensures .is,
+      third .find3 .ensures .is,
+      third .before .find2 .ensures .is,
+      third .before .before .find .ensures .is,
     )
 
 pub locate-spec : {M : Type 1} → statement M

@@ -1,14 +1,14 @@
--- `file::init::open_by` meets its contract.
-use Prim.Native.Nat.{ℕ}
-use mathlib.Core.Path.{_≡_, sym, ap, ap₂, _∙_}
+-- `file::init::open_by` meets its contract: stage by stage. A stage that refuses is handed back; the next one stands on what the stages before it
+-- leave: 1 to 5 the size (`top`), 6 to 9 a sound index (`none`).
+use mathlib.Core.Path.{_≡_, sym, ap}
 use native.Mathlib.Omega.{arith}
 use denote.Ref.{now}
+use Rattle.types.proofs.Widths.{width-bounds}
 use Rattle.types.specs.declared.refusal.Refusal.{Refusal}
 use Rattle.chunk.specs.Index.{indexRule}
 use Rattle.chunk.proofs.Sound.{indexed}
-use Rattle.file.specs.Table.{bases, chunked, openingBy}
-use Rattle.file.specs.declared.rules.Index.{Index}
-use Rattle.file.proofs.Stages.{stages, stage-no, stage-none, stage-as, Headed, headed, width-wide}
+use Rattle.file.specs.Table.{width, openingBy}
+use Rattle.file.proofs.Stages.{stages, stage-no, stage-none, stage-as, Headed, headed, width-known}
 use borrow.Author.Needs.{needs}
 use Rattle.file.proofs.init.open_by.Statement.{statement}
 use Rattle.file.proofs.init.open_by.Tie as tie
@@ -29,33 +29,31 @@ returns c = search stages
 returns-2 : tie.Need-returns-2
 unfolding openingBy
 returns-2 c =
-    let at-if1 = c .before .before .before in
-    stage-no _ _ _ _ _ (at-if1 .before .head .ensures) (at-if1 .if1 .left)
+    let begun = c .before .before .before in
+    stage-no _ (begun .before .head .ensures) (begun .if1 .left)
     (stage-as _ _ _ (c .before .before .check .ensures) (c .if2 .taken))
 
 shared-slice-read-chunks-open : tie.Need-shared-slice-read-chunks-open
 shared-slice-read-chunks-open c =
-    let at-if1 = c .before .before .before .before .before .before in
-    omega (arith, top at-if1)
+    let begun = c .before .before .before .before .before .before in
+    omega (arith, top begun)
 
 chunks-open-requires : tie.Need-chunks-open-requires
 chunks-open-requires c κs =
-    let at-if2 = c .before .before .before in
-    let start = at-if2 .before .before .before .before .before .before in
+    let sound = c .before .before .before in
+    let start = sound .before .before .before .before .before .before in
     let l = now (start .args .s) in
-    (indexed l (none at-if2), (c .before .before .locate .ensures, omega (arith, width-wide l), omega (arith, width-wide l)))
+    let w = width-bounds (width l) (width-known l) in
+    (indexed l (none sound), (c .before .before .locate .ensures, omega arith, omega arith))
 
 returns-3 : tie.Need-returns-3
 unfolding openingBy
 returns-3 c =
-    let at-locate = c .before .before .before in
-    let at-if1 = at-locate .before .before .before .before in
-    let a = at-if1 .before .before .before .args in
-    let l = now (a .s) in
-    stage-no _ _ _ _ _ (at-if1 .before .head .ensures) (at-if1 .if1 .left)
-    (stage-none _ _ _ _ (sym (none (at-locate .before)))
-    (c .chunks-open .ensures
-    ∙ ap₂ (λ (w : ℕ) (x : Index). chunked (a .tried) w (bases l) l x) (c .before .before .width-of .ensures) (at-locate .locate .ensures)))
+    let located = c .before .before .before in
+    let begun = located .before .before .before .before in
+    stage-no _ (begun .before .head .ensures) (begun .if1 .left)
+    (stage-none _ (sym (none (located .before)))
+    (rw (c .before .before .width-of .ensures, located .locate .ensures) at (c .chunks-open .ensures)))
 
 pub open-by-spec : {M : Type 1} → statement M
 open-by-spec =

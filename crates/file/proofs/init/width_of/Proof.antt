@@ -1,4 +1,4 @@
--- `file::init::width_of` meets its contract.
+-- `file::init::width_of` meets its contract: it is `width`, unfolded.
 use mathlib.Core.Path.{refl}
 use Rattle.file.specs.Table.{width}
 use Rattle.file.proofs.init.width_of.Statement.{statement}

@@ -1,4 +1,6 @@
--- `file::rules::fan` meets its contract.
+-- `file::rules::fan` meets its contract. The invariant: i ≤ 255, `last` is entry i, and the search for an entry that falls among all is the search from
+-- i on.
+-- The measure is 255 - i. Each turn passes an entry that does not fall, or stops at one that does (`falls-no`, `falls-yes`).
 use Prim.Native.Nat.{_*_, _-_, _≤_}
 use mathlib.Core.Path.{_≡_}
 use native.Mathlib.Omega.{arith}
@@ -6,7 +8,8 @@ use borrow.Author.Needs.{needs}
 use Rattle.words.specs.Big.{be}
 use Rattle.words.specs.First.{first}
 use Rattle.file.specs.Table.{falls, peak}
-use Rattle.file.proofs.Fan.{searching}
+use Rattle.words.proofs.Searches.{searching}
+use Rattle.file.proofs.Fan.{falls-yes, falls-no}
 use Rattle.file.proofs.rules.fan.Statement.{statement}
 use Rattle.file.proofs.rules.fan.Tie as tie
 
@@ -19,18 +22,11 @@ abbrev μ-loop : tie.MeasureT-loop
 loop-holds : tie.Need-loop-holds Inv-loop μ-loop
 loop-holds c = (omega arith, c .be32 .ensures, search searching)
 
-returns : tie.Need-returns Inv-loop μ-loop
-unfolding peak
-returns c = search searching
-
 loop-again : tie.Need-loop-again Inv-loop μ-loop
-loop-again c = (omega arith, c .before .be322 .ensures, search searching)
-
-returns-2 : tie.Need-returns-2 Inv-loop μ-loop
-unfolding peak
-returns-2 c = search searching
+loop-again c = (omega arith, c .before .be322 .ensures, search (searching, falls-no))
 
 pub fan-spec : {M : Type 1} → statement M
+unfolding peak
 fan-spec =
     tie.close
     (tie.spec
@@ -41,8 +37,8 @@ fan-spec =
     (λ c. omega arith)
     (λ c. omega arith)
     (λ c κs. search needs)
-    returns
+    (λ c. search (searching, falls-yes))
     (λ c. omega arith)
     (λ c. omega arith)
     loop-again
-    returns-2)
+    (λ c. search searching))

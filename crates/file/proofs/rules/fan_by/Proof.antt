@@ -1,4 +1,4 @@
--- `file::rules::fan_by` meets its contract.
+-- `file::rules::fan_by` meets its contract: by the two values of `tried`.
 use mathlib.Core.Path.{refl, _∙_}
 use Rattle.words.proofs.Rows.{hit, miss}
 use Rattle.file.specs.Table.{peakBy}

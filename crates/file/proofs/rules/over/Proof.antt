@@ -1,12 +1,10 @@
--- `file::rules::over` meets its contract.
-use Prim.Native.Nat.{ℕ, _%_}
-use mathlib.Core.Path.{ap}
+-- `file::rules::over` meets its contract: the chunk's size is what `size` ensures.
 use borrow.Author.Needs.{needs}
 use Rattle.file.proofs.rules.over.Statement.{statement}
 use Rattle.file.proofs.rules.over.Tie as tie
 
 returns : tie.Need-returns
-returns c = ap (λ (n : ℕ). n % c .before .args .w) (c .size .ensures)
+returns c = rw (c .size .ensures)
 
 pub over-spec : {M : Type 1} → statement M
 over-spec = tie.close (tie.spec

@@ -1,12 +1,10 @@
--- `file::rules::records` meets its contract.
-use Prim.Native.Nat.{ℕ, _/_}
-use mathlib.Core.Path.{ap}
+-- `file::rules::records` meets its contract: the chunk's size is what `size` ensures.
 use borrow.Author.Needs.{needs}
 use Rattle.file.proofs.rules.records.Statement.{statement}
 use Rattle.file.proofs.rules.records.Tie as tie
 
 returns : tie.Need-returns
-returns c = ap (λ (n : ℕ). n / c .before .args .w) (c .size .ensures)
+returns c = rw (c .size .ensures)
 
 pub records-spec : {M : Type 1} → statement M
 records-spec = tie.close (tie.spec

@@ -1,4 +1,4 @@
--- `flat::answers::asked_flat` meets its contract.
+-- `flat::answers::asked_flat` meets its contract: each case is the row of `flatAsked` that it names.
 use Rattle.flat.specs.Images.{flatAsked}
 use borrow.Author.Needs.{needs}
 use Rattle.flat.proofs.answers.asked_flat.Statement.{statement}
@@ -13,10 +13,4 @@ unfolding flatAsked
 returns-2 c = rw (c .before .a .given .1)
 
 pub asked-flat-spec : {M : Type 1} → statement M
-asked-flat-spec =
-    tie.close
-    (tie.spec
-    (λ c. search needs)
-    (λ c. search needs)
-    returns
-    returns-2)
+asked-flat-spec = tie.close (tie.spec (search needs) (search needs) returns returns-2)

@@ -1,4 +1,4 @@
--- `flat::answers::found_flat` meets its contract.
+-- `flat::answers::found_flat` meets its contract: each case is the row of `flatFound` that it names.
 use Rattle.flat.specs.Images.{flatFound}
 use borrow.Author.Needs.{needs}
 use Rattle.flat.proofs.answers.found_flat.Statement.{statement}
@@ -20,9 +20,9 @@ pub found-flat-spec : {M : Type 1} → statement M
 found-flat-spec =
     tie.close
     (tie.spec
-    (λ c. search needs)
-    (λ c. search needs)
-    (λ c. search needs)
+    (search needs)
+    (search needs)
+    (search needs)
     returns
     returns-2
     returns-3)

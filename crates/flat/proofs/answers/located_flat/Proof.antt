@@ -1,4 +1,4 @@
--- `flat::answers::located_flat` meets its contract.
+-- `flat::answers::located_flat` meets its contract: each case is the row of `flatLocated` that it names.
 use Rattle.flat.specs.Images.{flatLocated}
 use borrow.Author.Needs.{needs}
 use Rattle.flat.proofs.answers.located_flat.Statement.{statement}
@@ -13,10 +13,4 @@ unfolding flatLocated
 returns-2 c = rw (c .before .y2 .given .1)
 
 pub located-flat-spec : {M : Type 1} → statement M
-located-flat-spec =
-    tie.close
-    (tie.spec
-    (λ c. search needs)
-    (λ c. search needs)
-    returns
-    returns-2)
+located-flat-spec = tie.close (tie.spec (search needs) (search needs) returns returns-2)

@@ -1,4 +1,4 @@
--- `flat::answers::opening_flat` meets its contract.
+-- `flat::answers::opening_flat` meets its contract: each case is the row of `flatOpening` that it names.
 use Rattle.flat.specs.Images.{flatOpening}
 use borrow.Author.Needs.{needs}
 use Rattle.flat.proofs.answers.opening_flat.Statement.{statement}
@@ -13,10 +13,4 @@ unfolding flatOpening
 returns-2 c = rw (c .before .o2 .given .1)
 
 pub opening-flat-spec : {M : Type 1} → statement M
-opening-flat-spec =
-    tie.close
-    (tie.spec
-    (λ c. search needs)
-    (λ c. search needs)
-    returns
-    returns-2)
+opening-flat-spec = tie.close (tie.spec (search needs) (search needs) returns returns-2)

@@ -1,4 +1,4 @@
--- `flat::commits::commit_flat` meets its contract.
+-- `flat::commits::commit_flat` meets its contract: each case is the row of `flatCommit` that it names, with the two words' kinds and numbers.
 use Rattle.flat.specs.Images.{flatCommit}
 use borrow.Author.Needs.{needs}
 use Rattle.flat.proofs.commits.commit_flat.Statement.{statement}
@@ -7,13 +7,13 @@ use Rattle.flat.proofs.commits.commit_flat.Tie as tie
 returns : tie.Need-returns
 unfolding flatCommit
 returns c =
-    let at-edge-kind = c .before .before .before in
+    let first = c .before .before in
     simp (
       c .edge-word2 .ensures,
       c .before .edge-kind2 .ensures,
-      c .before .before .edge-word .ensures,
-      at-edge-kind .edge-kind .ensures,
-      at-edge-kind .before .before .a .given .1,
+      first .edge-word .ensures,
+      first .before .edge-kind .ensures,
+      first .before .before .before .a .given .1,
     )
 
 returns-2 : tie.Need-returns-2
@@ -24,11 +24,11 @@ pub commit-flat-spec : {M : Type 1} → statement M
 commit-flat-spec =
     tie.close
     (tie.spec
-    (λ c. search needs)
-    (λ c κs. search needs)
-    (λ c κs. search needs)
-    (λ c κs. search needs)
-    (λ c κs. search needs)
-    (λ c. search needs)
+    (search needs)
+    (search needs)
+    (search needs)
+    (search needs)
+    (search needs)
+    (search needs)
     returns
     returns-2)

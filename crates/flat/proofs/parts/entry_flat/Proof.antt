@@ -1,4 +1,4 @@
--- `flat::parts::entry_flat` meets its contract.
+-- `flat::parts::entry_flat` meets its contract: each case is the row of `flatEntry` that it names.
 use Rattle.flat.specs.Images.{flatEntry}
 use borrow.Author.Needs.{needs}
 use Rattle.flat.proofs.parts.entry_flat.Statement.{statement}
@@ -20,10 +20,10 @@ pub entry-flat-spec : {M : Type 1} → statement M
 entry-flat-spec =
     tie.close
     (tie.spec
-    (λ c. search needs)
-    (λ c κs. search needs)
-    (λ c. search needs)
-    (λ c. search needs)
+    (search needs)
+    (search needs)
+    (search needs)
+    (search needs)
     returns
     returns-2
     returns-3)

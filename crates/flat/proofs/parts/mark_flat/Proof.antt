@@ -1,4 +1,4 @@
--- `flat::parts::mark_flat` meets its contract.
+-- `flat::parts::mark_flat` meets its contract: each case is the row of `flatMark` that it names.
 use Rattle.flat.specs.Images.{flatMark}
 use borrow.Author.Needs.{needs}
 use Rattle.flat.proofs.parts.mark_flat.Statement.{statement}
@@ -20,13 +20,13 @@ pub mark-flat-spec : {M : Type 1} → statement M
 mark-flat-spec =
     tie.close
     (tie.spec
-    (λ c. search needs)
-    (λ c κs. search needs)
-    (λ c κs. search needs)
-    (λ c. search needs)
-    (λ c κs. search needs)
-    (λ c. search needs)
-    (λ c κs. search needs)
+    (search needs)
+    (search needs)
+    (search needs)
+    (search needs)
+    (search needs)
+    (search needs)
+    (search needs)
     returns
     returns-2
     returns-3)

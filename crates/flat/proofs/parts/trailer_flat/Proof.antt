@@ -1,4 +1,4 @@
--- `flat::parts::trailer_flat` meets its contract.
+-- `flat::parts::trailer_flat` meets its contract: each case is the row of `flatTrailer` that it names.
 use Rattle.flat.specs.Images.{flatTrailer}
 use borrow.Author.Needs.{needs}
 use Rattle.flat.proofs.parts.trailer_flat.Statement.{statement}
@@ -20,11 +20,11 @@ pub trailer-flat-spec : {M : Type 1} → statement M
 trailer-flat-spec =
     tie.close
     (tie.spec
-    (λ c. search needs)
-    (λ c κs. search needs)
-    (λ c. search needs)
-    (λ c κs. search needs)
-    (λ c. search needs)
+    (search needs)
+    (search needs)
+    (search needs)
+    (search needs)
+    (search needs)
     returns
     returns-2
     returns-3)

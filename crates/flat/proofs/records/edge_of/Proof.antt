@@ -1,4 +1,4 @@
--- `flat::records::edge_of` meets its contract.
+-- `flat::records::edge_of` meets its contract: each return is the row of `edgeOf` that its test names.
 use borrow.Author.Tests.{eq-eqb, ne-eqb}
 use Rattle.words.specs.First.{_if_else_}
 use Rattle.flat.specs.Records.{edgeOf}
@@ -15,7 +15,4 @@ unfolding edgeOf _if_else_
 returns-2 c = rw (ne-eqb _ 0 (c .before .if1 .left), c .end-of .ensures)
 
 pub edge-of-spec : {M : Type 1} → statement M
-edge-of-spec = tie.close (tie.spec
-    returns
-    (λ c κs. search needs)
-    returns-2)
+edge-of-spec = tie.close (tie.spec returns (search needs) returns-2)

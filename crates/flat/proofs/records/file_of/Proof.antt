@@ -1,4 +1,4 @@
--- `flat::records::file_of` meets its contract.
+-- `flat::records::file_of` meets its contract: the EDGE chunk is what `edge_of` answers; the others are the record's, the bases modulo 256.
 use Rattle.flat.specs.Records.{fileOf}
 use borrow.Author.Needs.{needs}
 use Rattle.flat.proofs.records.file_of.Statement.{statement}
@@ -9,7 +9,4 @@ unfolding fileOf
 returns c = rw (c .before .edge-of .ensures)
 
 pub file-of-spec : {M : Type 1} → statement M
-file-of-spec = tie.close (tie.spec
-    (λ c κs. search needs)
-    (λ c. search needs)
-    returns)
+file-of-spec = tie.close (tie.spec (search needs) (search needs) returns)

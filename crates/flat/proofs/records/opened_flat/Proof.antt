@@ -1,4 +1,4 @@
--- `flat::records::opened_flat` meets its contract.
+-- `flat::records::opened_flat` meets its contract: each case is the row of `flatOpened` that it names.
 use Rattle.flat.specs.Records.{flatOpened}
 use borrow.Author.Needs.{needs}
 use Rattle.flat.proofs.records.opened_flat.Statement.{statement}
@@ -16,9 +16,9 @@ pub opened-flat-spec : {M : Type 1} → statement M
 opened-flat-spec =
     tie.close
     (tie.spec
-    (λ c. search needs)
-    (λ c κs. search needs)
-    (λ c. search needs)
-    (λ c κs. search needs)
+    (search needs)
+    (search needs)
+    (search needs)
+    (search needs)
     returns
     returns-2)

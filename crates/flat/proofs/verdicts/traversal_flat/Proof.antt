@@ -1,4 +1,4 @@
--- `flat::verdicts::traversal_flat` meets its contract.
+-- `flat::verdicts::traversal_flat` meets its contract: each case is the row of `flatJudged` that it names.
 use Rattle.flat.specs.Images.{flatJudged}
 use borrow.Author.Needs.{needs}
 use Rattle.flat.proofs.verdicts.traversal_flat.Statement.{statement}
@@ -13,10 +13,4 @@ unfolding flatJudged
 returns-2 c = rw (c .before .verdict2 .given .1)
 
 pub traversal-flat-spec : {M : Type 1} → statement M
-traversal-flat-spec =
-    tie.close
-    (tie.spec
-    (λ c. search needs)
-    (λ c. search needs)
-    returns
-    returns-2)
+traversal-flat-spec = tie.close (tie.spec (search needs) (search needs) returns returns-2)

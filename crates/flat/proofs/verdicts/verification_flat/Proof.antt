@@ -1,4 +1,4 @@
--- `flat::verdicts::verification_flat` meets its contract.
+-- `flat::verdicts::verification_flat` meets its contract: each case is the row of `flatVerdict` that it names.
 use Rattle.flat.specs.Images.{flatVerdict}
 use borrow.Author.Needs.{needs}
 use Rattle.flat.proofs.verdicts.verification_flat.Statement.{statement}
@@ -16,9 +16,9 @@ pub verification-flat-spec : {M : Type 1} → statement M
 verification-flat-spec =
     tie.close
     (tie.spec
-    (λ c. search needs)
-    (λ c κs. search needs)
-    (λ c κs. search needs)
-    (λ c. search needs)
+    (search needs)
+    (search needs)
+    (search needs)
+    (search needs)
     returns
     returns-2)

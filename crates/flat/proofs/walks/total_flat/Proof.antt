@@ -1,4 +1,4 @@
--- `flat::walks::total_flat` meets its contract.
+-- `flat::walks::total_flat` meets its contract: each case is the row of `flatTotal` that it names.
 use Rattle.flat.specs.Images.{flatTotal}
 use borrow.Author.Needs.{needs}
 use Rattle.flat.proofs.walks.total_flat.Statement.{statement}
@@ -13,8 +13,4 @@ unfolding flatTotal
 returns-2 c = rw (c .before .t2 .given .1)
 
 pub total-flat-spec : {M : Type 1} → statement M
-total-flat-spec = tie.close (tie.spec
-    (λ c. search needs)
-    (λ c. search needs)
-    returns
-    returns-2)
+total-flat-spec = tie.close (tie.spec (search needs) (search needs) returns returns-2)

@@ -1,80 +1,83 @@
--- `graph::survey::pass` meets its contract.
+-- `graph::survey::pass` meets its contract. The invariant, `Passing`: the first k files open, `at` is where file k starts, `sum` is how many
+-- commits come before it, and `mark` is the file that has position g, where it is one of them. The measure is how many files are left: each
+-- turn passes one.
 use Prim.Native.Nat.{_-_}
-use mathlib.Core.Path.{ap}
+use mathlib.Core.Path.{_≡_, ap}
 use native.Mathlib.Omega.{arith}
 use borrow.Author.Needs.{needs}
 use lib.ListN.{length}
+use denote.Ref.{now}
+use Rattle.file.specs.declared.Opening.{Opening}
+use Rattle.graph.specs.Chain.{openAt}
 use Rattle.graph.proofs.Passing.{Passing, open-is, pass-begins, pass-refused, pass-next, along-room, pass-ends}
 use Rattle.graph.proofs.survey.pass.Statement.{statement}
 use Rattle.graph.proofs.survey.pass.Tie as tie
 
 abbrev Inv-loop : tie.InvT-loop
-Inv-loop chain list z n g k₀ at₀ sum₀ mark₀ k at sum mark =
-    Passing z chain list n g k at sum mark
+Inv-loop chain list z n g k₀ at₀ sum₀ mark₀ k at sum mark = Passing z chain list n g k at sum mark
 
 abbrev μ-loop : tie.MeasureT-loop
 μ-loop chain list z n g k₀ at₀ sum₀ mark₀ k at sum mark = n - k
+
+-- what was opened in this turn is file k
+file-k : (c : tie.After-open Inv-loop μ-loop) {v : Opening} → c .«open» .result ≡ v
+    → (let turn = c .before .before in
+    let start = turn .before .before .before .before .before in
+    openAt (start .args .z) (now (start .args .chain)) (now (start .args .list)) (turn .before .loop .k) ≡ v)
+file-k c e = open-is _ _ _ _ (c .before .file-at .ensures) (c .«open» .ensures .is) e
 
 loop-holds : tie.Need-loop-holds Inv-loop μ-loop
 loop-holds c = pass-begins _ _ _ (c .before .before .before .pre) _ _ (c .nowhere .ensures)
 
 file-at-requires : tie.Need-file-at-requires Inv-loop μ-loop
-file-at-requires c κs =
-    let start = c .before .before .before .before .before in
-    (start .pre, (c .loop-test .taken, c .before .loop .inv .along .place))
+file-at-requires c κs = (c .before .before .before .before .before .pre, (c .loop-test .taken, c .before .loop .inv .along .place))
 
 returns : tie.Need-returns Inv-loop μ-loop
 returns c =
-    let at-open = c .before .before .before .before in
-    let at-loop = at-open .before .before .before in
-    let start = at-loop .before .before .before .before in
+    let opened = c .before .before .before .before in
+    let turn = opened .before .before in
+    let start = turn .before .before .before .before .before in
     rw (c .of-file .ensures)
-    (pass-refused _ _ _ (start .pre) (at-loop .loop .inv) (at-open .before .before .loop-test .taken)
-    (open-is _ _ _ _ (at-open .before .file-at .ensures) (at-open .«open» .ensures) (c .before .before .o .given .1)))
+    (pass-refused _ _ _ (start .pre) (turn .before .loop .inv) (turn .loop-test .taken) (file-k opened (c .before .before .o .given .1)))
 
 add-next : tie.Need-add-next Inv-loop μ-loop
 add-next c =
-    let at-open = c .before .before .before .before in
-    let at-loop = at-open .before .before .before in
-    let start = at-loop .before .before .before .before in
-    omega (
-      arith,
-      along-room _ _ _ (start .pre) _ _ (at-loop .loop .inv .along) (at-open .before .before .loop-test .taken) _
-          (open-is _ _ _ _ (at-open .before .file-at .ensures) (at-open .«open» .ensures) (c .before .before .o2 .given .1)),
-    )
+    let opened = c .before .before .before .before in
+    let turn = opened .before .before in
+    let start = turn .before .before .before .before .before in
+    let f-k = file-k opened (c .before .before .o2 .given .1) in
+    omega (arith, along-room _ _ _ (start .pre) _ _ (turn .before .loop .inv .along) (turn .loop-test .taken) _ f-k)
 
 add-at : tie.Need-add-at Inv-loop μ-loop
 add-at c =
-    let at-o2 = c .before .before .before in
-    let at-file-at = at-o2 .before .before .before in
-    let start = at-file-at .before .before .before .before .before .before in
+    let opened = c .before .before .before .before .before in
+    let turn = opened .before .before in
+    let start = turn .before .before .before .before .before in
+    let f-k = file-k opened (c .before .before .before .o2 .given .1) in
     omega (
       arith,
-      along-room _ _ _ (start .pre) _ _ (at-file-at .before .before .loop .inv .along) (at-file-at .before .loop-test .taken) _
-          (open-is _ _ _ _ (at-file-at .file-at .ensures) (at-o2 .before .before .«open» .ensures) (at-o2 .o2 .given .1)),
-      ap length (at-file-at .file-at .ensures),
+      along-room _ _ _ (start .pre) _ _ (turn .before .loop .inv .along) (turn .loop-test .taken) _ f-k,
+      ap length (opened .before .file-at .ensures),
     )
 
 add-k : tie.Need-add-k Inv-loop μ-loop
 add-k c =
-    let at-loop-test = c .before .before .before .before .before .before .before in
-    let start = at-loop-test .before .before .before .before .before in
-    omega (arith, at-loop-test .loop-test .taken, start .pre .few)
+    let turn = c .before .before .before .before .before .before .before in
+    omega (arith, turn .loop-test .taken, turn .before .before .before .before .before .pre .few)
 
 loop-less : tie.Need-loop-less Inv-loop μ-loop
 loop-less c =
-    let at-loop-test = c .before .before .before .before .before .before .before in
-    omega (arith, at-loop-test .loop-test .taken)
+    let opened = c .before .before .before .before .before in
+    omega (arith, opened .before .before .loop-test .taken)
 
 loop-again : tie.Need-loop-again Inv-loop μ-loop
 loop-again c =
-    let at-o2 = c .before .before .before in
-    let at-file-at = at-o2 .before .before .before in
-    let start = at-file-at .before .before .before .before .before .before in
+    let opened = c .before .before .before .before .before in
+    let turn = opened .before .before in
+    let start = turn .before .before .before .before .before in
     rw (c .kept .ensures)
-    (pass-next _ _ _ (start .pre) (at-file-at .before .before .loop .inv) (at-file-at .before .loop-test .taken)
-    (open-is _ _ _ _ (at-file-at .file-at .ensures) (at-o2 .before .before .«open» .ensures) (at-o2 .o2 .given .1))
-    (ap length (at-file-at .file-at .ensures)))
+    (pass-next _ _ _ (start .pre) (turn .before .loop .inv) (turn .loop-test .taken)
+    (file-k opened (c .before .before .before .o2 .given .1)) (ap length (opened .before .file-at .ensures)))
 
 returns-2 : tie.Need-returns-2 Inv-loop μ-loop
 returns-2 c =

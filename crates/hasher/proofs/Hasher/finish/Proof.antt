@@ -1,13 +1,13 @@
--- `hasher::Hasher::finish` meets its contract.
-use Prim.Native.Nat.{ℕ, _+_, _-_, _*_, _%_}
-use mathlib.Core.Path.{_≡_, sym, ap, ap₂, _∙_}
-use mathlib.Core.List.{_∷_, _++_}
+-- `hasher::Hasher::finish` meets its contract: the mark and its zeros (`mark`, `zeros`) and the length are two pieces, and two pieces are one
+-- (`together`).
+use Prim.Native.Nat.{ℕ, _+_, _-_, _%_}
+use mathlib.Core.Path.{_≡_, sym, ap, _∙_}
+use mathlib.Core.List.{_∷_}
 use native.Mathlib.Omega.{arith}
 use lib.ListN.{length, take, replicate, length-take}
-use Rattle.words.specs.Big.{bytesOf}
 use Rattle.words.specs.First.{first}
-use Rattle.hasher.specs.Message.{fills, padding, bytes}
-use Rattle.hasher.specs.State.{updated, finished}
+use Rattle.hasher.specs.Message.{fills, padding}
+use Rattle.hasher.specs.State.{finished}
 use Rattle.hasher.specs.declared.Hasher.{Hasher}
 use Rattle.hasher.proofs.Fed.{mark, zeros}
 use Rattle.hasher.proofs.Laws.{together}
@@ -21,17 +21,14 @@ slice-aggregate-update c = simp length-take (omega arith)
 returns : tie.Need-returns
 unfolding finished padding
 returns c =
-    let at-update = c .before .before .before .before in
-    let h : Hasher = at-update .before .before .before .args .self in
+    let marked = c .before .before .before .before in
+    let h : Hasher = marked .before .before .before .args .self in
     let z : ℕ = (119 - h .count % 64) % 64 in
     let g : length (h .block) ≡ 64 = search needs in
     let m : take {A = ℕ} (1 + z) (0x80 ∷ replicate 63 0) ≡ 0x80 ∷ replicate (first (fills (h .count)) 0 64) 0 =
     mark z (omega arith) ∙ ap (λ (k : ℕ). 0x80 ∷ replicate k 0) (sym (zeros _)) in
-    let p : c .before .before .update2 .result ≡ updated h ((0x80 ∷ replicate (first (fills (h .count)) 0 64) 0) ++ bytesOf 8 (8 * h .count)) =
-    c .before .before .update2 .ensures
-    ∙ ap₂ updated (at-update .update .ensures ∙ ap (updated h) m) (at-update .before .before .length-bytes .ensures)
-    ∙ together h _ (bytesOf 8 (8 * h .count)) g in
-    c .digest .ensures ∙ ap (λ (k : Hasher). bytes (k .words)) p
+    rw (c .before .before .update2 .ensures, marked .update .ensures, m, marked .before .before .length-bytes .ensures, together h _ _ g)
+    at (c .digest .ensures)
 
 pub finish-spec : {M : Type 1} → statement M
 finish-spec =

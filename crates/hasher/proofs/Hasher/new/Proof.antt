@@ -1,4 +1,4 @@
--- `hasher::Hasher::new` meets its contract.
+-- `hasher::Hasher::new` meets its contract: it is `started`, unfolded.
 use mathlib.Core.Path.{refl}
 use Rattle.hasher.specs.Fips.{initial}
 use Rattle.hasher.specs.State.{started}

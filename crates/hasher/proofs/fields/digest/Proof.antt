@@ -1,6 +1,7 @@
--- `hasher::fields::digest` meets its contract.
+-- `hasher::fields::digest` meets its contract. The invariant: i ≤ 5, `out` has 20 bytes, and its first 4i are the bytes of the first i words.
+-- The measure is 5 - i. Each turn stores the four bytes of word i (`word-stored`).
 use Prim.Native.Nat.{_-_, _*_, _≤_}
-use mathlib.Core.Path.{_≡_, refl, sym, ap, _∙_}
+use mathlib.Core.Path.{_≡_, refl, sym, _∙_}
 use native.Mathlib.Omega.{arith}
 use lib.ListN.{length, take, length-set}
 use lib.Seq.{take-all}
@@ -33,7 +34,7 @@ returns c =
     let w = c .before .before .args .t1 in
     let e : length w ≡ 5 = search needs in
     let q : l .i ≡ 5 = omega arith in
-    sym (take-all 20 _ (omega arith)) ∙ rw q at (l .inv .2) ∙ ap bytes (take-all 5 w (omega arith))
+    sym (take-all 20 _ (omega arith)) ∙ rw (q, take-all 5 w (omega arith)) at (l .inv .2)
 
 pub digest-spec : {M : Type 1} → statement M
 digest-spec =

@@ -1,10 +1,7 @@
--- `hasher::fields::joined` meets its contract.
-use Prim.Native.Nat.{ℕ}
-use mathlib.Core.Path.{_≡_, ap, _∙_}
-use mathlib.Core.List.{List}
+-- `hasher::fields::joined` meets its contract: the second `stored` goes behind what the first one put over zeros (`pasted`).
+use mathlib.Core.Path.{_≡_}
 use native.Mathlib.Omega.{arith}
 use lib.ListN.{length, length-take}
-use lib.Seq.{paste}
 use Rattle.hasher.proofs.Fed.{pasted}
 use borrow.Author.Needs.{needs}
 use Rattle.hasher.proofs.fields.joined.Statement.{statement}
@@ -21,9 +18,7 @@ returns c =
     let start = c .before .before .before .before in
     let a = start .args in
     let e : length (a .t1) ≡ 64 = search needs in
-    c .stored2 .ensures
-    ∙ ap (λ (o : List ℕ). paste o (a .n) (a .s .now) (length (a .s .now))) (c .before .stored .ensures)
-    ∙ pasted (a .t1) (a .n) (a .s .now) (omega arith) (omega arith)
+    rw (c .before .stored .ensures, pasted (a .t1) (a .n) (a .s .now) (omega arith) (omega arith)) at (c .stored2 .ensures)
 
 pub joined-spec : {M : Type 1} → statement M
 joined-spec =

@@ -1,4 +1,4 @@
--- `hasher::fields::length_bytes` meets its contract.
+-- `hasher::fields::length_bytes` meets its contract: the eight bytes depend on the number modulo 2 ^ 64 only (`bytes-same`).
 use Prim.Native.Nat.{_*_, _%_, _^_}
 use native.Mathlib.Nat.{div-one}
 use native.Mathlib.Omega.{arith}

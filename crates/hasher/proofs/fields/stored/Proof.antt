@@ -1,11 +1,11 @@
--- `hasher::fields::stored` meets its contract.
-use Prim.Native.Nat.{ℕ, _+_, _-_, _≤_}
-use mathlib.Core.Path.{_≡_, sym, ap, _∙_}
-use mathlib.Core.List.{List}
+-- `hasher::fields::stored` meets its contract. The invariant: j ≤ length s, and `out` is `old` with the first j bytes of `s` pasted at n.
+-- The measure is length s - j. Each turn stores byte j (`paste-suc`).
+use Prim.Native.Nat.{_-_, _≤_}
+use mathlib.Core.Path.{_≡_}
 use native.Mathlib.Numerals.{add-one}
 use native.Mathlib.Omega.{arith}
 use borrow.Author.Needs.{needs}
-use lib.ListN.{length, getD, set}
+use lib.ListN.{length}
 use lib.Seq.{paste, paste-zero, paste-suc}
 use Rattle.hasher.proofs.fields.stored.Statement.{statement}
 use Rattle.hasher.proofs.fields.stored.Tie as tie
@@ -21,14 +21,12 @@ loop-holds c = (search needs, paste-zero _ (c .args .n) (c .args .s .now))
 
 loop-again : tie.Need-loop-again Inv-loop μ-loop
 loop-again c =
-    let at-loop = c .before .before in
-    let l = at-loop .loop in
-    let a = at-loop .before .args in
+    let turn = c .before .before in
+    let l = turn .loop in
+    let a = turn .before .args in
     let e : length (a .old) ≡ 64 = search needs in (
       omega arith,
-      ap (λ (o : List ℕ). set o (a .n + l .j) (getD (a .s .now) (l .j) 0)) (l .inv .1)
-          ∙ paste-suc (a .old) (a .n) (a .s .now) (l .j) 0 (omega arith) (omega arith)
-          ∙ ap (paste (a .old) (a .n) (a .s .now)) (sym (add-one (l .j))),
+      rw (l .inv .1, add-one) (paste-suc (a .old) (a .n) (a .s .now) (l .j) 0 (omega arith) (omega arith)),
     )
 
 returns : tie.Need-returns Inv-loop μ-loop
@@ -36,7 +34,7 @@ returns c =
     let l = c .before .loop in
     let a = c .before .before .args in
     let q : l .j ≡ length (a .s .now) = omega arith in
-    l .inv .1 ∙ ap (paste (a .old) (a .n) (a .s .now)) q
+    rw q at (l .inv .1)
 
 pub stored-spec : {M : Type 1} → statement M
 stored-spec =

@@ -1,4 +1,7 @@
 -- `parents::listing::fill_in` meets its contract.
+-- The invariant: `out` is as long as at entry; its first n entries are done, and the parents left at `phase` written over the rest give the whole
+-- (`Filling`). The measure: the entries of `out` past n. A turn that meets a parent moves it from what is left to entry n (`fill-next`); a refusal
+-- and the end leave nothing to write (`fill-stops`), and so does a full list (`fill-full`).
 use mathlib.Core.Path.{_≡_, refl}
 use lib.ListN.{length}
 use Prim.Native.Nat.{_-_}
@@ -24,21 +27,21 @@ loop-holds c = (refl, fill-begins _ _)
 
 loop-again : tie.Need-loop-again Inv-loop μ-loop
 loop-again c =
-    let at-step-in = c .before .before .before .before in (
+    let stepped = c .before .before .before .before in (
       search needs,
-      fill-next (at-step-in .before .before .loop .inv .1) _ _
-          (rest-parent _ _ _ _ _ (at-step-in .step-in .ensures) (c .before .before .met .given .1)) (search needs),
+      fill-next (stepped .before .before .loop .inv .1)
+          (rest-parent _ _ _ _ _ (stepped .step-in .ensures .is) (c .before .before .met .given .1)) (search needs),
     )
 
 returns : tie.Need-returns Inv-loop μ-loop
 returns c =
-    let at-step-in = c .before .before in
-    fill-stops (at-step-in .before .before .loop .inv .1) _ (rest-stop _ _ _ _ _ (at-step-in .step-in .ensures) (c .enum-told .given .1))
+    let stepped = c .before .before in
+    fill-stops (stepped .before .before .loop .inv .1) (rest-stop _ _ _ _ _ (stepped .step-in .ensures .is) (c .enum-told .given .1))
 
 returns-2 : tie.Need-returns-2 Inv-loop μ-loop
 returns-2 c =
-    let at-step-in = c .before .before in
-    fill-stops (at-step-in .before .before .loop .inv .1) _ (rest-end _ _ _ _ _ (at-step-in .step-in .ensures) (c .enum-told2 .given .1))
+    let stepped = c .before .before in
+    fill-stops (stepped .before .before .loop .inv .1) (rest-end _ _ _ _ _ (stepped .step-in .ensures .is) (c .enum-told2 .given .1))
 
 returns-3 : tie.Need-returns-3 Inv-loop μ-loop
 returns-3 c = fill-full (c .before .loop .inv .1) (search needs)
@@ -50,18 +53,18 @@ fill-in-spec =
     Inv-loop
     μ-loop
     loop-holds
-    (λ c κs. search needs)
-    (λ c. search needs)
-    (λ c. search needs)
-    (λ c. search needs)
-    (λ c. search needs)
-    (λ c. search needs)
+    (search needs)
+    (search needs)
+    (search needs)
+    (search needs)
+    (search needs)
+    (search needs)
     loop-again
-    (λ c. search needs)
-    (λ c. search needs)
+    (search needs)
+    (search needs)
     returns
-    (λ c. search needs)
-    (λ c. search needs)
+    (search needs)
+    (search needs)
     returns-2
-    (λ c. search needs)
+    (search needs)
     returns-3)

@@ -1,4 +1,4 @@
--- `report::lines::accepted` meets its contract.
+-- `report::lines::accepted` meets its contract: four texts, one behind the other.
 use Rattle.report.specs.Output.{line, others}
 use Rattle.report.proofs.Putting.{_then_}
 use borrow.Author.Needs.{needs}
@@ -8,21 +8,21 @@ use Rattle.report.proofs.lines.accepted.Tie as tie
 returns : tie.Need-returns
 unfolding line others
 returns c =
-    let at-length = c .before .before .before .before .before .before .before in
-    let at-figure = at-length .before .before .before .before in
-    let at-word-2 = at-figure .before .before .before .before in
-    at-word-2 .word .ensures then at-figure .figure .ensures
-    then at-length .length .ensures then c .before .before .word2 .ensures
+    let last = c .before .before in
+    let steps = last .before .before .before .before .before in
+    let commits = steps .before .before .before .before in
+    let first = commits .before .before .before .before in
+    first .word .ensures then commits .figure .ensures then steps .length .ensures then last .word2 .ensures
 
 pub accepted-spec : {M : Type 1} → statement M
 accepted-spec =
     tie.close
     (tie.spec
-    (λ c. search needs)
-    (λ c κs. search needs)
-    (λ c κs. search needs)
-    (λ c κs. search needs)
-    (λ c. search needs)
-    (λ c κs. search needs)
-    (λ c. search needs)
+    (search needs)
+    (search needs)
+    (search needs)
+    (search needs)
+    (search needs)
+    (search needs)
+    (search needs)
     returns)

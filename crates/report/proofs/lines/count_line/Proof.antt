@@ -1,4 +1,4 @@
--- `report::lines::count_line` meets its contract.
+-- `report::lines::count_line` meets its contract: four texts, one behind the other, where n is above 0, and none else.
 use native.Mathlib.Omega.{arith}
 use borrow.Author.Tests.{lt-ltb, le-ltb}
 use Rattle.words.specs.First.{_if_else_}
@@ -11,11 +11,12 @@ use Rattle.report.proofs.lines.count_line.Tie as tie
 returns : tie.Need-returns
 unfolding line others countLine _if_else_
 returns c =
-    let at-figure = c .before .before .before .before .before .before .before in
-    let at-key = at-figure .before .before .before .before in
-    let at-word-2 = at-key .before .before .before .before in
-    rw (lt-ltb _ _ (at-word-2 .before .before .before .if1 .taken))
-    (at-word-2 .word .ensures then at-key .key .ensures then at-figure .figure .ensures then c .before .before .word2 .ensures)
+    let last = c .before .before in
+    let number = last .before .before .before .before .before in
+    let key = number .before .before .before .before in
+    let first = key .before .before .before .before in
+    rw (lt-ltb _ _ (first .before .before .before .if1 .taken))
+    (first .word .ensures then key .key .ensures then number .figure .ensures then last .word2 .ensures)
 
 returns-2 : tie.Need-returns-2
 unfolding line others countLine _if_else_
@@ -25,12 +26,12 @@ pub count-line-spec : {M : Type 1} → statement M
 count-line-spec =
     tie.close
     (tie.spec
-    (λ c. search needs)
-    (λ c κs. search needs)
-    (λ c κs. search needs)
-    (λ c κs. search needs)
-    (λ c. search needs)
-    (λ c κs. search needs)
-    (λ c. search needs)
+    (search needs)
+    (search needs)
+    (search needs)
+    (search needs)
+    (search needs)
+    (search needs)
+    (search needs)
     returns
     returns-2)

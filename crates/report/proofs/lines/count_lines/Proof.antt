@@ -1,4 +1,6 @@
 -- `report::lines::count_lines` meets its contract.
+-- The invariant: k is at most 66, and the lines of the first k counts stand in `out` from `at` to `next`, in a room of 50 bytes for each.
+-- The measure: the counts that are left. A turn writes the line of count k behind them (`lines-more`).
 use Prim.Native.Nat.{_*_, _-_, _≤_}
 use mathlib.Core.Path.{_≡_}
 use native.Mathlib.Omega.{arith}
@@ -23,8 +25,8 @@ count-line-requires c κs = let p = c .before .before .before .loop .inv .1 in o
 
 loop-again : tie.Need-loop-again Inv-loop μ-loop
 loop-again c =
-    let at-loop-2 = c .before .before .before .before .before .before in
-    (omega arith, lines-more _ _ _ _ (at-loop-2 .loop .inv .1) (c .before .before .count-line .ensures))
+    let wrote = c .before .before in
+    (omega arith, lines-more _ _ _ _ (wrote .before .before .before .before .loop .inv .1) (wrote .count-line .ensures))
 
 same-length : tie.Need-same-length Inv-loop μ-loop
 same-length c = c .before .loop .inv .1 .size
@@ -39,11 +41,11 @@ count-lines-spec =
     Inv-loop
     μ-loop
     loop-holds
-    (λ c. search needs)
-    (λ c. search needs)
+    (search needs)
+    (search needs)
     count-line-requires
-    (λ c. search needs)
-    (λ c. search needs)
+    (search needs)
+    (search needs)
     loop-again
     same-length
     returns)

@@ -1,4 +1,4 @@
--- `report::lines::figure` meets its contract.
+-- `report::lines::figure` meets its contract: a space, then a number of at most 20 digits.
 use native.Mathlib.Omega.{arith}
 use Rattle.text.proofs.Decimal.{dec-length}
 use Rattle.report.proofs.Putting.{puts, _then_}
@@ -8,19 +8,11 @@ use Rattle.report.proofs.lines.figure.Tie as tie
 
 returns : tie.Need-returns
 returns c =
-    let at-word-2 = c .before .before .before .before .before .before in
-    let at-start = at-word-2 .before .before .before .before in
-    let w = at-word-2 .word .ensures in
-    let few = dec-length (at-start .args .n) (search needs) in
-    w then puts 20 _ _ _ (omega (arith, w .place, w .size)) few (c .before .before .number .ensures .0)
-    (c .before .before .number .ensures .1)
+    let wrote = c .before .before in
+    let spaced = wrote .before .before .before .before in
+    let w = spaced .word .ensures in
+    let few = dec-length (spaced .before .before .before .before .args .n) (search needs) in
+    w then puts 20 _ _ _ (omega (arith, w .place, w .size)) few (wrote .number .ensures .0) (wrote .number .ensures .1)
 
 pub figure-spec : {M : Type 1} → statement M
-figure-spec =
-    tie.close
-    (tie.spec
-    (λ c. search needs)
-    (λ c κs. search needs)
-    (λ c κs. search needs)
-    (λ c. search needs)
-    returns)
+figure-spec = tie.close (tie.spec (search needs) (search needs) (search needs) (search needs) returns)

@@ -1,4 +1,4 @@
--- `report::lines::refused` meets its contract.
+-- `report::lines::refused` meets its contract: five texts, one behind the other.
 use Rattle.report.specs.Output.{line, others}
 use Rattle.report.proofs.Putting.{_then_}
 use borrow.Author.Needs.{needs}
@@ -8,26 +8,25 @@ use Rattle.report.proofs.lines.refused.Tie as tie
 returns : tie.Need-returns
 unfolding line others
 returns c =
-    let at-figure3 = c .before .before .before .before .before .before .before in
-    let at-figure2 = at-figure3 .before .before .before .before in
-    let at-figure = at-figure2 .before .before .before .before .before in
-    let at-word-2 = at-figure .before .before .before .before .before in
-    at-word-2 .word .ensures then at-figure .figure .ensures
-    then at-figure2 .figure2 .ensures then at-figure3 .figure3 .ensures
-    then c .before .before .word2 .ensures
+    let last = c .before .before in
+    let place = last .before .before .before .before .before in
+    let file = place .before .before .before .before in
+    let number = file .before .before .before .before .before in
+    let first = number .before .before .before .before .before in
+    first .word .ensures then number .figure .ensures then file .figure2 .ensures then place .figure3 .ensures then last .word2 .ensures
 
 pub refused-spec : {M : Type 1} → statement M
 refused-spec =
     tie.close
     (tie.spec
-    (λ c. search needs)
-    (λ c κs. search needs)
-    (λ c. search needs)
-    (λ c κs. search needs)
-    (λ c. search needs)
-    (λ c κs. search needs)
-    (λ c κs. search needs)
-    (λ c. search needs)
-    (λ c κs. search needs)
-    (λ c. search needs)
+    (search needs)
+    (search needs)
+    (search needs)
+    (search needs)
+    (search needs)
+    (search needs)
+    (search needs)
+    (search needs)
+    (search needs)
+    (search needs)
     returns)

@@ -14,7 +14,7 @@ unfolding triedOf triedBy
 returns-2 c =
     let said = c .before .before in
     let counted = said .before .before in
-    let count = sym (counted .count-in .ensures) ∙ said .k .given .1 in
+    let count = sym (counted .count-in .ensures .is) ∙ said .k .given .1 in
     c .stopped2 .ensures ∙ rw (counted .before .before .a2 .given .1, count)
 
 returns-3 : tie.Need-returns-3
@@ -22,7 +22,7 @@ unfolding triedOf triedBy
 returns-3 c =
     let said = c .before in
     let counted = said .before .before in
-    let count = sym (counted .count-in .ensures) ∙ said .k2 .given .1 in
+    let count = sym (counted .count-in .ensures .is) ∙ said .k2 .given .1 in
     rw (counted .before .before .a2 .given .1, count)
 
 pub attempt-spec : {M : Type 1} → statement M

@@ -32,7 +32,7 @@ tried : (t : tie.After-attempt Inv-loop μ-loop)
 tried t =
     let turn = t .before .before in
     let start = turn .before .before .before .before .before .before in
-    tried-is _ (start .pre) (turn .loop-test .taken) (t .before .row-in .ensures) (t .attempt .ensures)
+    tried-is _ (start .pre) (turn .loop-test .taken) (t .before .row-in .ensures .is) (t .attempt .ensures)
 
 loop-holds : tie.Need-loop-holds Inv-loop μ-loop
 loop-holds c =

@@ -1,4 +1,4 @@
--- `words::big::be32` meets its contract.
+-- `words::big::be32` meets its contract: inside the slice it is `be`, unfolded; else it is `past`.
 use native.Mathlib.Omega.{arith}
 use native.Mathlib.Nat.{add-zero}
 use Rattle.words.specs.Big.{be}

@@ -1,4 +1,4 @@
--- `words::big::be64` meets its contract.
+-- `words::big::be64` meets its contract: four bytes and four more (`be-split`); past the end there is nothing to read (`be-past`).
 use native.Mathlib.Omega.{arith}
 use denote.Ref.{now}
 use Rattle.words.proofs.Numbers.{be-past, be-split}

@@ -1,4 +1,4 @@
--- `words::big::byte` meets its contract.
+-- `words::big::byte` meets its contract: past the end a byte counts as 0.
 use native.Mathlib.Omega.{arith}
 use lib.ListN.{List·getD-eq-default}
 use mathlib.Core.Path.{sym}

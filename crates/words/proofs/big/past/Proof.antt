@@ -1,4 +1,4 @@
--- `words::big::past` meets its contract.
+-- `words::big::past` meets its contract: past the end there is nothing to read (`be-past`); else it is `be`, unfolded.
 use native.Mathlib.Omega.{arith}
 use native.Mathlib.Nat.{add-zero}
 use denote.Ref.{now}
