@@ -1,27 +1,26 @@
 -- The bases of a file, and the ways through refusals 60 to 63.
-use Prim.Native.Nat.{ℕ, suc, _+_, _-_, _*_, _≤_, _<_}
+use Prim.Native.Nat.{ℕ, zero, suc, _+_, _-_, _*_, _≤_, _<_}
 use mathlib.Core.List.{List}
 use mathlib.Core.Bool.{Bool, true, false, not}
-use mathlib.Core.Path.{_≡_, sym, ap, _∙_}
+use mathlib.Core.Path.{_≡_, refl, sym, ap, _∙_}
 use native.Mathlib.Omega.{arith}
-use native.Mathlib.Nat.{mul-le-mul-right, suc-mul}
 use lib.Dec.{ltb, eqb}
 use lib.ListN.{length, getD}
 use denote.Ref.{RefT}
 use borrow.Author.Tests.{lt-ltb, le-ltb, eqb-true, ne-eqb}
 use Rattle.words.specs.Big.{be, number}
-use Rattle.words.specs.First.{_if_else_}
+use Rattle.words.specs.First.{_if_else_, first}
 use Rattle.words.specs.Part.{RecordsOf}
 use Rattle.words.proofs.Adds.{before-next}
 use Rattle.words.proofs.Numbers.{be-part}
 use Rattle.words.proofs.Parts.{run-in, part-number, part-length, length-part}
 use Rattle.words.proofs.Rows.{eq-not, ne-not}
 use Rattle.list.specs.List.{recordsOf, lengthAt}
-use Rattle.fit.specs.Facts.{Opened}
 use Rattle.fit.specs.Fits.{basePart}
 use Rattle.file.specs.declared.File.{File}
 use Rattle.file.specs.declared.Opening.the-variants.{Open}
-use Rattle.fit.proofs.Opens.{opened}
+use Rattle.audit.proofs.Tabling.{is-open, next-start}
+use Rattle.types.proofs.Widths.{width-bounds}
 use Rattle.rules.specs.Rules.{_or_, sumIn, sumRule, nameIn, nameRule}
 use Rattle.rules.proofs.Entries.{or-hit, or-miss}
 use Rattle.rules.proofs.Trailers.{sum-plain, name-plain}
@@ -29,57 +28,69 @@ use Rattle.graph.specs.Chain.{widthIn, startAt, partAt, openAt}
 use Rattle.graph.proofs.Passing.{part-long}
 use Rattle.audit.specs.Files.{basesIn, baseIn, trailerAt}
 use Rattle.audit.specs.Rules.{alien, badBase, baseRule, headRule, headPlace}
-use Rattle.audit.specs.Scans.{Tabled, JudgedAs}
+use Rattle.audit.specs.Scans.{startIn, alienBy, Reach, Tabled, JudgedAs}
+
+-- two searches whose tests agree
+first-same : (p q : ℕ → Bool) (i k : ℕ) → ((j : ℕ) → i ≤ j → j < i + k → p j ≡ q j) → first p i k ≡ first q i k
+unfolding first _if_else_
+first-same p q i zero h = refl
+first-same p q i (suc k) h =
+    rw (h i (omega arith) (omega arith), first-same p q (i + 1) k (λ j a b. h j (omega arith) (omega arith)))
+
+-- base j, which was cut out as r, beside the bytes before where the next file starts
+pub alien-by : (s r : RefT (List ℕ)) (c t : List ℕ) (w j : ℕ) {x : Bool} → j * w + w ≤ length (s .now) → RecordsOf s (j * w) w 1 r
+    → x ≡ eqb (number (r .now)) (be (length (r .now)) c (getD t (j * 4 + 4) 0 - w)) → not x ≡ alienBy c t w (s .now) j
+unfolding alienBy
+alien-by s r c t w j {x} g y v =
+    let u = run-in s r (j * w) w g y in
+    let m : x ≡ eqb (be w (s .now) (j * w)) (be w c (startIn t (j + 1) - w)) =
+    v ∙ rw (part-number u g, part-length u g, next-start t j) in
+    ap not m
 
 module _ (z : ℕ) (c l : List ℕ) where
-  -- what an opened file has
-  module _ (k : ℕ) {f : File} (e : openAt z c l k ≡ Open f) where
-    pub is-open : Opened (partAt z c l k) f
-    unfolding openAt
-    is-open = opened true (partAt z c l k) e
+  -- a file has a trailer
+  pub long : (k : ℕ) {f : File} → openAt z c l k ≡ Open f → f .width ≤ length (partAt z c l k)
+  long k {f} e = omega (arith, width-bounds (f .width) (is-open z c l k e .known), is-open z c l k e .least)
 
-    pub wide : f .width ≡ 20
-    wide = eqb-true (f .width) 20 (is-open .known)
+  -- the ids of all files are as wide: each has 20 bytes
+  same-width : (i j : ℕ) {f g : File} → openAt z c l i ≡ Open f → openAt z c l j ≡ Open g → g .width ≡ f .width
+  same-width i j {f} {g} p q = eqb-true (g .width) 20 (is-open z c l j q .known) ∙ sym (eqb-true (f .width) 20 (is-open z c l i p .known))
 
-    pub long : f .width ≤ length (partAt z c l k)
-    long = omega (arith, wide, is-open .least)
-
-  module _ {starts firsts rows : List ℕ} (t : Tabled z c l starts firsts rows) where
+  module _ {t : List ℕ} (p : Tabled z c l t) where
     -- where the trailer of file j lies in the chain
-    pub trailer-is : (j : ℕ) {e : ℕ} → j < recordsOf z l → e ≡ getD starts (j + 1) 0 → (20 ≤ e) × (be 20 c (e - 20) ≡ trailerAt z c l j)
+    trailer-is : (j : ℕ) → j < recordsOf z l → {g : File} → openAt z c l j ≡ Open g
+        → (g .width ≤ startIn t (j + 1)) × (be (g .width) c (startIn t (j + 1) - g .width) ≡ trailerAt z c l j)
     unfolding trailerAt widthIn partAt
-    trailer-is j {e} h q =
-        let o = t .opens j h in
-        let w : o .0 .width ≡ 20 = wide j (o .1) in
-        let p : length (partAt z c l j) ≡ lengthAt z l j = part-long z c l (t .listed) j h in
-        let n : startAt z c l (j + 1) ≡ startAt z c l j + lengthAt z l j = before-next (lengthAt z l) j in
-        let s : e ≡ startAt z c l j + lengthAt z l j = q ∙ t .start (j + 1) (omega arith) ∙ n in
-        let m : 1100 ≤ lengthAt z l j = omega (arith, is-open j (o .1) .least) in
-        let a : e - 20 ≡ startAt z c l j + (lengthAt z l j - 20) = omega arith in
-        (omega arith, rw (o .1, w, p, a) (sym (be-part 20 c (startAt z c l j) (lengthAt z l j) (lengthAt z l j - 20) (omega arith))))
+    trailer-is j h {g} o =
+        let w : ℕ = g .width in
+        let m : length (partAt z c l j) ≡ lengthAt z l j = part-long z c l (p .listed) j h in
+        let s : startIn t (j + 1) ≡ startAt z c l j + lengthAt z l j = p .start (j + 1) (omega arith) ∙ before-next (lengthAt z l) j in
+        let n : g .width ≤ lengthAt z l j = omega (arith, long j o) in
+        let a : startIn t (j + 1) - g .width ≡ startAt z c l j + (lengthAt z l j - g .width) = omega arith in (
+          omega arith,
+          rw (o, m, a)
+              (sym (be-part (g .width) c (startAt z c l j) (lengthAt z l j) (lengthAt z l j - g .width) (omega arith))),
+        )
 
-    module _ {i : ℕ} (b : i < recordsOf z l) {f : File} (o : openAt z c l i ≡ Open f) (s : RefT (List ℕ))
-        (p : s .now ≡ basePart (partAt z c l i) f) (d : f .bases ≡ i) where
-      -- base j, as the part r, beside the trailer of file j
-      pub alien-is : (j : ℕ) {e : ℕ} (r : RefT (List ℕ)) {x : Bool} → j < i → e ≡ getD starts (j + 1) 0
-          → RecordsOf s (j * f .width) (f .width) 1 r
-          → x ≡ eqb (number (r .now)) (be (length (r .now)) c (e - f .width))
-          → not x ≡ alien z c l i j
-      unfolding alien baseIn
-      alien-is j {e} r {x} h q y v =
-          let w : f .width ≡ 20 = wide i o in
-          let n : length (s .now) ≡ f .bases * f .width = ap length p
-          ∙ length-part (f .base) (f .bases * f .width) (partAt z c l i) (is-open i o .fitted .base) in
-          let m : suc j ≤ f .bases = omega arith in
-          let k : suc j * f .width ≤ f .bases * f .width = mul-le-mul-right (f .width) m in
-          let g : j * f .width + f .width ≤ length (s .now) = omega (arith, suc-mul j (f .width)) in
-          let u = run-in s r (j * f .width) (f .width) g y in
-          let a : number (r .now) ≡ be (f .width) (basePart (partAt z c l i) f) (j * f .width) =
-          part-number u g ∙ ap (λ (k : List ℕ). be (f .width) k (j * f .width)) p in
-          let y20 : length (r .now) ≡ 20 = part-length u g ∙ w in
-          let m : x ≡ eqb (be (f .width) (basePart (partAt z c l i) f) (j * f .width)) (trailerAt z c l j) =
-          v ∙ rw (a, y20, w, trailer-is j (omega arith) q .1) in
-          rw o (ap not m)
+    module _ {i : ℕ} (b : i < recordsOf z l) {f : File} (o : openAt z c l i ≡ Open f) where
+      pub bases-long : {ids : List ℕ} → ids ≡ basePart (partAt z c l i) f → length ids ≡ f .bases * f .width
+      bases-long e = ap length e ∙ length-part (f .base) (f .bases * f .width) (partAt z c l i) (is-open z c l i o .fitted .base)
+
+      pub reaches : Reach t i (f .width)
+      reaches j h = let q = p .opens j (omega arith) in rw (← same-width i j o (q .1)) (trailer-is j (omega arith) (q .1) .0)
+
+      alien-is : (j : ℕ) → j < i → alienBy c t (f .width) (basePart (partAt z c l i) f) j ≡ alien z c l i j
+      unfolding alien alienBy baseIn
+      alien-is j h =
+          let q = p .opens j (omega arith) in
+          rw (o, ← trailer-is j (omega arith) (q .1) .1, same-width i j o (q .1))
+
+      pub base-told : {ids : List ℕ} {j : ℕ} → ids ≡ basePart (partAt z c l i) f → j ≡ first (alienBy c t (f .width) ids) 0 i
+          → j ≡ badBase z c l i
+      unfolding badBase
+      base-told e d =
+          d ∙ ap (λ (x : List ℕ). first (alienBy c t (f .width) x) 0 i) e
+          ∙ first-same _ _ 0 i (λ j a h. alien-is j (omega arith))
 
 -- 62 and 63 are not 61
 not-61 : (n : ℕ) (b : Bool) (rest : ℕ) → (n ≡ 61 → ⊥) → (rest ≡ 61 → ⊥) → (n if b else rest) ≡ 61 → ⊥
@@ -96,7 +107,7 @@ unfolding nameRule
 name-not w z l i p e = not-61 63 _ _ (λ k. omega arith) (λ k. not-61 63 _ 0 (λ m. omega arith) (λ m. omega arith) k) e
 
 -- what 60 to 63 said: the bases, the first bad one, the sum, the name
-module _ (z : ℕ) (c l : List ℕ) (i : ℕ) {f : File} (o : openAt z c l i ≡ Open f) where
+module _ (z : ℕ) (c l : List ℕ) (i : ℕ) (there : i < recordsOf z l) {f : File} (o : openAt z c l i ≡ Open f) where
   pub head-bases : (f .bases ≡ i → ⊥) → JudgedAs z c l i (record { number = 60; place = 0 })
   unfolding headRule headPlace baseRule basesIn _if_else_ _or_
   head-bases h = let y = ne-not (f .bases) i h in record { number = rw (o, y); place = rw (o, y) }
@@ -135,5 +146,5 @@ module _ (z : ℕ) (c l : List ℕ) (i : ℕ) {f : File} (o : openAt z c l i ≡
         pub head-name : a ≤ 0 → {b : ℕ} → b ≡ nameIn (f .width) z l i s → JudgedAs z c l i (record { number = b; place = 0 })
         head-name g {b} x =
             let v : b ≡ nameRule (f .width) z l i (partAt z c l i) = x ∙ ap (nameIn (f .width) z l i) p
-            ∙ name-plain (f .width) z l i (partAt z c l i) (is-open z c l i o .known) (long z c l i o) in
+            ∙ name-plain (f .width) z l i (partAt z c l i) there (is-open z c l i o .known) (long z c l i o) in
             plain (v ∙ sym (rest ∙ or-miss _ (sym summed ∙ omega arith))) (λ k. name-not (f .width) z l i (partAt z c l i) (sym v ∙ k))

@@ -1,262 +1,220 @@
 -- The commits of a chain's file in turn: the ways through one, what a loop over them keeps, and what it comes to.
-use Prim.Native.Nat.{ℕ, _+_, _-_, _*_, _≤_, _<_, min, max}
+use Prim.Native.Nat.{ℕ, _+_, _*_, _≤_, _<_, min, max}
 use mathlib.Core.List.{List}
-use mathlib.Core.Bool.{Bool, not}
-use mathlib.Core.Path.{_≡_, refl, sym, ap, _∙_}
+use mathlib.Core.Path.{_≡_, refl, sym, ap, subst, _∙_}
+use mathlib.Core.Logic.{⊎-elim}
 use native.Mathlib.Omega.{arith}
-use denote.Ref.{RefT}
+use native.Mathlib.Decide.{ℕ-discrete}
 use lib.Dec.{ltb}
-use lib.ListN.{length, getD, set, take, drop}
-use Rattle.words.specs.Part.{RecordsOf}
+use lib.ListN.{length, getD, set}
+use borrow.Author.Tests.{lt-ltb, le-ltb}
 use Rattle.words.proofs.Adds.{before-next}
-use Rattle.words.proofs.Parts.{length-part, records-in, run-in}
+use Rattle.words.proofs.Numbers.{le-or-lt}
 use Rattle.words.proofs.Rows.{eq-not, ne-not}
-use Rattle.words.specs.First.{_if_else_, first}
+use Rattle.words.specs.First.{_if_else_}
 use Rattle.list.specs.List.{recordsOf}
-use Rattle.chunk.specs.Index.{absent, startOf, sizeOf}
-use Rattle.fit.specs.Facts.{Opened}
 use Rattle.file.specs.declared.File.{File}
 use Rattle.file.specs.declared.Opening.the-variants.{Open}
-use Rattle.ancestry.specs.Graph.{highestIn, highestBelow, rightGen, cap}
-use Rattle.ancestry.specs.Counts.{keyOf, countsOf}
-use Rattle.ancestry.proofs.Scans.{Sofar, sofar-begins, sofar-next, sofar-stops, sofar-ends, highest-adds, counts-adds, counts-small}
-use Rattle.commit.specs.Commits.{commitIn, rowOf}
-use Rattle.steps.specs.Walks.{positions, firstWalk}
-use Rattle.parents.specs.Walks.{walkOf}
-use Rattle.commit.specs.declared.Commit.{Commit}
+use Rattle.ancestry.specs.Graph.{highestIn, rightGen, cap}
+use Rattle.ancestry.specs.Counts.{keyOf}
+use Rattle.ancestry.proofs.Scans.{sofar-begins}
+use Rattle.commit.specs.Commits.{rowOf}
 use Rattle.commit.specs.declared.Asked.{Asked}
 use Rattle.commit.specs.declared.Asked.the-variants.{Commit as Is, Refused}
-use Rattle.types.specs.declared.refusal.Refusal.{Refusal}
-use Rattle.rules.specs.Rules.{_or_, entryIn}
-use Rattle.traverse.specs.Traversal.{partsOf}
-use Rattle.traverse.specs.Scans.{Holds}
+use Rattle.steps.specs.Walks.{Walked, positions}
+use Rattle.parents.specs.Walks.{walkOf}
 use Rattle.rules.proofs.Entries.{or-hit, or-miss}
-use Rattle.traverse.proofs.Scanning.{entry-is, row-is}
+use Rattle.tries.specs.Tries.{Parts, partsOf, rowIn, stoppedBy, Told}
+use Rattle.tries.specs.declared.Tried.{Tried}
+use Rattle.tries.proofs.Trials.{row-bad, row-fine, file-holds, Going, going-stops, going-small, going-next, going-ends}
 use Rattle.graph.specs.Chain.{partAt, openAt, countAt, firstAt}
 use Rattle.graph.proofs.Standing.{stands}
 use Rattle.walk.specs.Lists.{walkIn, walkedAt}
 use Rattle.audit.specs.Files.{genIn, entryAt, genAt, keyAt}
 use Rattle.audit.specs.Rules.{walkRule, genRule, commitRule, bad, badCommit, commitRules}
-use Rattle.audit.specs.Scans.{Tabled, Cut, metOf, TriedAs, ScannedAs}
+use Rattle.audit.specs.Scans.{Tabled, Before, metOf, triedBy, triedOf, ScannedAs}
 use Rattle.audit.specs.declared.meets.Met.{Met}
-use Rattle.audit.specs.declared.commits.Tried.{Tried}
+use Rattle.audit.specs.declared.commits.Tally.{Tally}
 use Rattle.audit.specs.declared.commits.Scanned.{Scanned}
-use Rattle.audit.proofs.Heading.{is-open}
 use Rattle.audit.proofs.Meeting.{met-rule, met-count, met-highest}
+use Rattle.audit.proofs.Tabling.{is-open}
 use Rattle.graph.proofs.Passing.{few-positions}
 
--- ── one commit ──
+-- the ways through a commit whose row was answered: s is how its parents went, g its generation
+module _ (s : Met) (g : ℕ) where
+  pub tried-walk : 0 < s .number → stoppedBy (s .number) ≡ triedBy s g
+  unfolding _if_else_
+  tried-walk h = rw (lt-ltb 0 (s .number) h)
 
-module _ (z : ℕ) (c l : List ℕ) (i w n : ℕ) (x y v e : List ℕ) (t : Bool) (q : Cut z c l i w n x y v e t) where
-  pub cut-wide : Opened (partAt z c l i) (q .inner)
-  cut-wide = is-open z c l i (q .opens)
+  module _ (h : s .number ≤ 0) {f : ℕ} (e : f ≡ min (1 + s .highest) cap) where
+    pub tried-gen : (g ≡ f → ⊥) → stoppedBy 69 ≡ triedBy s g
+    unfolding _if_else_
+    tried-gen n = rw (le-ltb 0 (s .number) h, ne-not g (min (1 + s .highest) cap) (λ d. n (d ∙ sym e)))
 
-  holds : Holds (partsOf (partAt z c l i) (q .inner)) (q .inner .commits)
-  holds = record {
-    known = cut-wide .known;
-    ids = length-part (q .inner .oidl) _ (partAt z c l i) (cut-wide .fitted .ids);
-    rows = length-part (q .inner .cdat) _ (partAt z c l i) (cut-wide .fitted .rows);
-  }
+    pub tried-fine : g ≡ f → record { number = 0; parents = s .parents; generation = g } ≡ triedBy s g
+    unfolding _if_else_
+    tried-fine n = rw (le-ltb 0 (s .number) h, eq-not g (min (1 + s .highest) cap) (n ∙ e))
 
-  module _ (k : ℕ) (h : k < n) where
-    below : k < q .inner .commits
-    below = omega (arith, q .count)
-
-    told-entry : entryIn w x y v k ≡ entryAt (partAt z c l i) (openAt z c l i) k
-    unfolding entryAt
-    told-entry = rw (q .opens, q .width, q .fan, q .ids, q .rows) (entry-is k holds below)
-
-    told-row : commitIn w v k ≡ Is (rowOf (partAt z c l i) (q .inner) k)
-    told-row = rw (q .width, q .rows) (row-is k holds below)
-
-    walk-is : {d : Commit} → d ≡ rowOf (partAt z c l i) (q .inner) k
-        → firstWalk (d .first) (d .second) t e ≡ walkIn (partAt z c l i) (openAt z c l i) k
-    unfolding walkIn walkOf
-    walk-is p = rw (q .opens, q .there, q .edge, p)
-
-    gen-is : {d : Commit} → d ≡ rowOf (partAt z c l i) (q .inner) k → d .generation ≡ genIn (partAt z c l i) (openAt z c l i) k
-    unfolding genIn
-    gen-is p = rw (q .opens, p)
-
-    -- m is what the entry met
-    module _ {m : ℕ} (u : m ≡ entryIn w x y v k) where
-      pub tried-entry : (r : Tried) → r .number ≡ m → 0 < m → TriedAs z c l i k r
-      unfolding commitRule
-      tried-entry r d g =
-          let p : m ≡ entryAt (partAt z c l i) (openAt z c l i) k = u ∙ told-entry in
-          record {
-            number = d ∙ p ∙ or-hit _ _ (omega arith);
-            parents = λ a. absurd (omega arith);
-            generation = λ a. absurd (omega arith);
-          }
-
-      -- a is what was asked for
-      module _ (g : m ≤ 0) {a : Asked} (b : a ≡ commitIn w v k) where
-        none : entryAt (partAt z c l i) (openAt z c l i) k ≡ 0
-        none = omega (arith, told-entry)
-
-        pub tried-none : {r : Refusal} → a ≡ Refused r → ⊥
-        tried-none d = let o : _≡_ {A = ℕ} 0 1 = cc (told-row) in omega arith
-
-        -- d is the commit, s how its parents went
-        module _ {d : Commit} (o : a ≡ Is d) {s : Met}
-            (p : s ≡ metOf (firstAt z c l (i + 1)) (genAt z c l) (firstWalk (d .first) (d .second) t e) 0 0) where
-          row : d ≡ rowOf (partAt z c l i) (q .inner) k
-          row = cc (told-row)
-
-          met : s ≡ metOf (firstAt z c l (i + 1)) (genAt z c l) (walkIn (partAt z c l i) (openAt z c l i) k) 0 0
-          met = p ∙ rw (walk-is row)
-
-          walked : s .number ≡ walkRule (firstAt z c l (i + 1)) (walkIn (partAt z c l i) (openAt z c l i) k)
-          walked = rw met (met-rule (firstAt z c l (i + 1)) (genAt z c l) _ 0 0)
-
-          pub tried-walk : (r : Tried) → 0 < s .number → r .number ≡ s .number → TriedAs z c l i k r
-          unfolding commitRule
-          tried-walk r j f =
-              record {
-                number = f ∙ walked ∙ or-hit _ _ (omega (arith, walked)) ∙ sym (or-miss _ none);
-                parents = λ b. absurd (omega arith);
-                generation = λ b. absurd (omega arith);
-              }
-
-          module _ (j : s .number ≤ 0) {f : ℕ} (right : f ≡ min (1 + s .highest) cap) where
-            right-is : f ≡ rightGen (genAt z c l) (positions (walkIn (partAt z c l i) (openAt z c l i) k))
-            right-is =
-                let b : metOf (firstAt z c l (i + 1)) (genAt z c l) (walkIn (partAt z c l i) (openAt z c l i) k) 0 0 .number ≡ 0 =
-                rw (← met) (omega arith) in
-                let y : s .highest ≡ max 0 (highestIn (genAt z c l) (positions (walkIn (partAt z c l i) (openAt z c l i) k))) =
-                ap (λ (a : Met). a .highest) met ∙ met-highest (firstAt z c l (i + 1)) (genAt z c l) _ 0 0 b in
-                right ∙ ap (λ (a : ℕ). min (1 + a) cap) (omega arith)
-
-            rest : commitRule z c l i k ≡ genRule z c l i k
-            unfolding commitRule
-            rest = or-miss _ none ∙ or-miss _ (omega (arith, walked))
-
-            pub tried-gen : (r : Tried) → (d .generation ≡ f → ⊥) → r .number ≡ 69 → TriedAs z c l i k r
-            unfolding genRule _if_else_
-            tried-gen r b y =
-                let a = ne-not _ _
-                (λ g. b (gen-is row ∙ g ∙ sym right-is)) in
-                record {
-                  number = y ∙ sym (rest ∙ rw a);
-                  parents = λ b. absurd (omega arith);
-                  generation = λ b. absurd (omega arith);
-                }
-
-            pub tried-fine : (r : Tried) → d .generation ≡ f → r .number ≡ 0 → r .parents ≡ s .parents → r .generation ≡ d .generation
-                → TriedAs z c l i k r
-            unfolding genRule _if_else_
-            tried-fine r b y u g =
-                let a = eq-not _ _ (sym (gen-is row) ∙ b ∙ right-is) in
-                let o : metOf (firstAt z c l (i + 1)) (genAt z c l) (walkIn (partAt z c l i) (openAt z c l i) k) 0 0 .number ≡ 0 =
-                rw (← met) (omega arith) in
-                record {
-                  number = y ∙ sym (rest ∙ rw a);
-                  parents = λ b. let n : s .parents ≡ 0 + length (positions (walkIn (partAt z c l i) (openAt z c l i) k)) =
-                      ap (λ (a : Met). a .parents) met ∙ met-count (firstAt z c l (i + 1)) (genAt z c l) _ 0 0 o in
-                      omega arith;
-                  generation = λ b. g ∙ gen-is row;
-                }
-
--- ── all of them ──
+-- ── commit k of file i ──
 
 module _ (z : ℕ) (c l : List ℕ) (i : ℕ) where
+  -- what its entry meets, its walk and how that is met, its parents and its generation
+  abbrev entryIs : ℕ → ℕ
+  entryIs k = entryAt (partAt z c l i) (openAt z c l i) k
+
+  abbrev walkAt : ℕ → Walked
+  walkAt k = walkIn (partAt z c l i) (openAt z c l i) k
+
+  abbrev metAt : ℕ → Met
+  metAt k = metOf (firstAt z c l (i + 1)) (genAt z c l) (walkAt k) 0 0
+
+  abbrev parentsOf : ℕ → List ℕ
+  parentsOf k = positions (walkAt k)
+
+  abbrev genIs : ℕ → ℕ
+  genIs k = genIn (partAt z c l i) (openAt z c l i) k
+
+  abbrev pub CommitTold : ℕ → Tried → Type 0
+  CommitTold k r =
+      Told (commitRule z c l i k) (length (parentsOf k)) (genIs k) r
+
+  -- w is its walk and s how that was met, g its generation; its entry is not refused
+  module _ (k : ℕ) (none : entryIs k ≡ 0) {s : Met}
+      (met : s ≡ metAt k) {g : ℕ}
+      (gen : g ≡ genIs k) where
+    walked : s .number ≡ walkRule (firstAt z c l (i + 1)) (walkAt k)
+    walked = rw met (met-rule (firstAt z c l (i + 1)) (genAt z c l) _ 0 0)
+
+    walk-told : 0 < s .number → CommitTold k (stoppedBy (s .number))
+    unfolding commitRule
+    walk-told h =
+        record {
+          number = walked ∙ or-hit _ _ (omega (arith, walked)) ∙ sym (or-miss _ none);
+          parents = λ b. absurd (omega arith);
+          generation = λ b. absurd (omega arith);
+        }
+
+    module _ (h : s .number ≤ 0) where
+      zero-met : metAt k .number ≡ 0
+      zero-met = rw (← met) (omega arith)
+
+      right-is : min (1 + s .highest) cap ≡ rightGen (genAt z c l) (parentsOf k)
+      right-is =
+          let y : s .highest ≡ max 0 (highestIn (genAt z c l) (parentsOf k)) =
+          ap (λ (a : Met). a .highest) met ∙ met-highest (firstAt z c l (i + 1)) (genAt z c l) _ 0 0 zero-met in
+          ap (λ (a : ℕ). min (1 + a) cap) (omega arith)
+
+      rest : commitRule z c l i k ≡ genRule z c l i k
+      unfolding commitRule
+      rest = or-miss _ none ∙ or-miss _ (omega (arith, walked))
+
+      gen-told : (g ≡ min (1 + s .highest) cap → ⊥) → CommitTold k (stoppedBy 69)
+      unfolding genRule _if_else_
+      gen-told n =
+          let a = ne-not _ _ (λ d. n (gen ∙ d ∙ sym right-is)) in
+          record { number = sym (rest ∙ rw a); parents = λ b. absurd (omega arith); generation = λ b. absurd (omega arith) }
+
+      fine-told : g ≡ min (1 + s .highest) cap → CommitTold k (record { number = 0; parents = s .parents; generation = g })
+      unfolding genRule _if_else_
+      fine-told n =
+          let a = eq-not _ _ (sym gen ∙ n ∙ right-is) in
+          let m : s .parents ≡ 0 + length (parentsOf k) =
+          ap (λ (a : Met). a .parents) met ∙ met-count (firstAt z c l (i + 1)) (genAt z c l) _ 0 0 zero-met in
+          record { number = sym (rest ∙ rw a); parents = λ b. omega arith; generation = λ b. gen }
+
+    met-told : CommitTold k (triedBy s g)
+    met-told =
+        ⊎-elim
+        (λ (h : s .number ≤ 0). go h (ℕ-discrete g (min (1 + s .highest) cap)))
+        (λ (h : 0 < s .number). subst (CommitTold k) (tried-walk s g h) (walk-told h))
+        (le-or-lt (s .number) 0)
+      where
+        go : s .number ≤ 0 → Dec (g ≡ min (1 + s .highest) cap) → CommitTold k (triedBy s g)
+        go h (yes e) = subst (CommitTold k) (tried-fine s g h refl e) (fine-told h e)
+        go h (no e) = subst (CommitTold k) (tried-gen s g h refl e) (gen-told h e)
+
+  -- the file's record is f, and q are its parts; a is how row k was answered, r how the commit went
+  module _ {f : File} (o : openAt z c l i ≡ Open f) (k : ℕ) (below : k < f .commits) (q : Parts) (cut : q ≡ partsOf (partAt z c l i) f)
+      {a : Asked} (said : a ≡ rowIn (f .width) (q .fan) (q .ids) (q .rows) k)
+      {r : Tried} (went : r ≡ triedOf (firstAt z c l (i + 1)) (genAt z c l) a (q .there) (q .edge)) where
+    e : a ≡ rowIn (f .width) (partsOf (partAt z c l i) f .fan) (partsOf (partAt z c l i) f .ids) (partsOf (partAt z c l i) f .rows) k
+    e = said ∙ ap (λ (q : Parts). rowIn (f .width) (q .fan) (q .ids) (q .rows) k) cut
+
+    d : r ≡ triedOf (firstAt z c l (i + 1)) (genAt z c l) a (partsOf (partAt z c l i) f .there) (partsOf (partAt z c l i) f .edge)
+    d = went ∙ ap (λ (q : Parts). triedOf (firstAt z c l (i + 1)) (genAt z c l) a (q .there) (q .edge)) cut
+
+    pub commit-told : CommitTold k r
+    unfolding triedOf commitRule entryAt walkIn walkOf genIn
+    commit-told = go a refl
+      where
+        go : (v : Asked) → a ≡ v → CommitTold k r
+        go (Refused x) p =
+            let m = row-bad k (file-holds (is-open z c l i o)) below e p in
+            let w : r ≡ stoppedBy (x .number) = d ∙ rw p in
+            let b : x .number ≡ entryIs k = m .1 ∙ rw o in
+            rw w (record {
+              number = b ∙ or-hit _ _ (omega arith);
+              parents = λ b. absurd (omega arith);
+              generation = λ b. absurd (omega arith);
+            })
+        go (Is x) p =
+            let m = row-fine k (file-holds (is-open z c l i o)) below e p in
+            let s : Met = metOf (firstAt z c l (i + 1)) (genAt z c l) (walkOf (partAt z c l i) f k) 0 0 in
+            rw (d, p, m .1) (met-told k (rw o (m .0)) {s = s} (rw o) {g = rowOf (partAt z c l i) f k .generation} (rw o))
+
+  -- ── all of them ──
+
   bad-is : (k : ℕ) → bad z c l i k ≡ ltb 0 (commitRule z c l i k)
   unfolding bad
   bad-is k = refl
 
-  -- the loop stands at commit k: none before it is refused, and these are what the commits up to it come to
-  pub record Trying (k h : ℕ) (t : List ℕ) : Type 0 where
-    pub sofar : Sofar (bad z c l i) (countAt z c l i) k
-    pub highest : h ≡ highestBelow (genAt z c l) (firstAt z c l i + k)
-    pub counts : t ≡ countsOf (keyAt z c l) (firstAt z c l i + k)
+  -- the loop stands at commit k
+  abbrev pub Trying : ℕ → ℕ → List ℕ → Type 0
+  Trying k h t = Going (bad z c l i) (genAt z c l) (keyAt z c l) (countAt z c l i) k (firstAt z c l i + k) h t
 
-  pub try-begins : {h : ℕ} {t : List ℕ} → t ≡ countsOf (keyAt z c l) (firstAt z c l i) → h ≡ highestBelow (genAt z c l) (firstAt z c l i)
-      → Trying 0 h t
-  try-begins p q =
+  pub try-begins : {b : Tally} → Before z c l i b → Trying 0 (b .highest) (b .counts)
+  try-begins p =
       let a : firstAt z c l i + 0 ≡ firstAt z c l i = omega arith in
-      record { sofar = sofar-begins (bad z c l i) (countAt z c l i); highest = rw a q; counts = rw a p }
+      record { sofar = sofar-begins (bad z c l i) (countAt z c l i); highest = rw a (p .highest); counts = rw a (p .counts) }
 
   module _ (b : i < recordsOf z l) {k h : ℕ} {t : List ℕ} (s : Trying k h t) where
     -- r is how commit k went
-    module _ (f : k < countAt z c l i) {r : Tried} (a : TriedAs z c l i k r) where
+    module _ (f : k < countAt z c l i) {r : Tried} (a : CommitTold k r) where
       pub try-stops : (x : Scanned) → 0 < r .number → x .number ≡ r .number → x .place ≡ k → ScannedAs z c l i x
       unfolding badCommit commitRules
       try-stops x g d p =
-          let y = sofar-stops (commitRule z c l i) bad-is (s .sofar) f (a .number) g in
-          record {
-            number = d ∙ y .1;
-            place = p ∙ y .0;
-            counts = λ q. let o : ⊥ = omega arith in absurd o;
-            highest = λ q. absurd (omega arith);
-          }
+          let y = going-stops s (commitRule z c l i) bad-is f a g in
+          record { number = d ∙ y .1; place = p ∙ y .0; tally = λ q. absurd (omega arith) }
 
       module _ (g : r .number ≤ 0) {j : ℕ} (e : j ≡ keyOf (r .parents)) (m : j < 66) where
-        key-is : j ≡ keyAt z c l (firstAt z c l i + k)
+        key-here : keyOf (length (parentsOf k)) ≡ keyAt z c l (firstAt z c l i + k)
         unfolding keyAt walkedAt
-        key-is =
-            e ∙ ap keyOf (a .parents (omega arith))
-            ∙ rw (stands z c l .fileBack i k b f, stands z c l .posBack i k b f)
+        key-here = rw (stands z c l .fileBack i k b f, stands z c l .posBack i k b f)
 
-        gen-here : r .generation ≡ genAt z c l (firstAt z c l i + k)
+        gen-here : genIs k ≡ genAt z c l (firstAt z c l i + k)
         unfolding genAt
-        gen-here = a .generation (omega arith) ∙ rw (stands z c l .fileBack i k b f, stands z c l .posBack i k b f)
+        gen-here = rw (stands z c l .fileBack i k b f, stands z c l .posBack i k b f)
 
         pub try-small : getD t j 0 ≤ firstAt z c l i + k
-        try-small = counts-small (keyAt z c l) (firstAt z c l i + k) key-is m (s .counts)
+        try-small = going-small s (commitRule z c l i) bad-is f a g e m key-here
 
         pub try-next : {top : ℕ} → top ≡ max h (r .generation) → Trying (k + 1) top (set t j (getD t j 0 + 1))
-        try-next {top} x =
+        try-next x =
             let o : firstAt z c l i + (k + 1) ≡ firstAt z c l i + k + 1 = omega arith in
-            record {
-              sofar = sofar-next (commitRule z c l i) bad-is (s .sofar) f (a .number) g;
-              highest = rw o (highest-adds (genAt z c l) (firstAt z c l i + k) h top gen-here (s .highest) x);
-              counts = rw o (counts-adds (keyAt z c l) (firstAt z c l i + k) key-is m (s .counts));
-            }
+            rw o (going-next s (commitRule z c l i) bad-is f a g e m key-here gen-here x)
 
-    pub try-ends : countAt z c l i ≤ k → (x : Scanned) → x .number ≡ 0 → x .place ≡ k → x .highest ≡ h → x .counts ≡ t → ScannedAs z c l i x
+    pub try-ends : countAt z c l i ≤ k → (x : Scanned) → x .number ≡ 0 → x .place ≡ k → x .tally .highest ≡ h → x .tally .counts ≡ t
+        → ScannedAs z c l i x
     unfolding badCommit commitRules
     try-ends f x d p g m =
-        let y = sofar-ends (commitRule z c l i) bad-is (s .sofar) f in
-        let o : firstAt z c l (i + 1) ≡ firstAt z c l i + k = omega (arith, s .sofar .most, before-next (countAt z c l) i) in
+        let y = going-ends s (commitRule z c l i) bad-is f in
+        let o : firstAt z c l (i + 1) ≡ firstAt z c l i + k = omega (arith, y .2, before-next (countAt z c l) i) in
         record {
           number = d ∙ y .1;
           place = p ∙ y .0;
-          counts = λ q. m ∙ rw o (s .counts);
-          highest = λ q. g ∙ rw o (s .highest);
+          tally = λ q. record { counts = m ∙ rw o (s .counts); highest = g ∙ rw o (s .highest) };
         }
 
   -- how many positions there are up to commit k
-  pub try-few : {starts firsts rows : List ℕ} → Tabled z c l starts firsts rows → i < recordsOf z l → (k : ℕ) → k < countAt z c l i
-      → (firstAt z c l i + k) * 36 ≤ 1073741824
+  pub try-few : {t : List ℕ} → Tabled z c l t → i < recordsOf z l → (k : ℕ) → k < countAt z c l i → (firstAt z c l i + k) * 36 ≤ 1073741824
   try-few t b k h = omega (arith, few-positions z c l (t .listed) (i + 1) (omega arith), before-next (countAt z c l) i)
-
--- ── a file's parts ──
-
-module _ (z : ℕ) (c l : List ℕ) (i : ℕ) (b : i < recordsOf z l) {f : File} (o : openAt z c l i ≡ Open f) (s : RefT (List ℕ))
-    (p : s .now ≡ partAt z c l i) where
-  here : Opened (s .now) f
-  here = rw p (is-open z c l i o)
-
-  -- what was cut out of its bytes
-  pub cut-made : (fan ids rows edge : RefT (List ℕ)) {there : Bool} → RecordsOf s (f .oidf) 256 4 fan
-      → RecordsOf s (f .oidl) (f .commits) (f .width) ids
-      → RecordsOf s (f .cdat) (f .commits) (f .width + 16) rows → {at n : ℕ}
-      → at ≡ startOf (f .edge) → n ≡ sizeOf (f .edge) → RecordsOf s at n 1 edge
-      → there ≡ not (absent (f .edge))
-      → Cut z c l i (f .width) (f .commits) (fan .now) (ids .now) (rows .now) (edge .now) there
-  cut-made fan ids rows edge {there} a d e {at} {n} q r g t =
-      record {
-        inner = f;
-        opens = o;
-        below = b;
-        width = refl;
-        count = refl;
-        fan = records-in s fan (f .oidf) 256 4 (here .fitted .fan) a .bytes ∙ ap (λ (u : List ℕ). take 1024 (drop (f .oidf) u)) p;
-        ids = records-in s ids (f .oidl) (f .commits) (f .width) (here .fitted .ids) d .bytes
-            ∙ ap (λ (u : List ℕ). take (f .commits * f .width) (drop (f .oidl) u)) p;
-        rows = records-in s rows (f .cdat) (f .commits) (f .width + 16) (here .fitted .rows) e .bytes
-            ∙ ap (λ (u : List ℕ). take (f .commits * (f .width + 16)) (drop (f .cdat) u)) p;
-        edge = run-in s edge at n (omega (arith, here .fitted .edge)) g .bytes ∙ rw (q, r, p);
-        there = t;
-      }

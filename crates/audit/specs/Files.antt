@@ -1,6 +1,6 @@
 -- What a chain's files store, for verification, and what their commits add up to. No refusal is here.
 -- c is the chain's bytes, l the list's, z the size of a record; i and j are files, k a commit's position in its file, g a graph position.
-use Prim.Native.Nat.{ℕ, _+_, _*_}
+use Prim.Native.Nat.{ℕ, _*_}
 use mathlib.Core.List.{List}
 use lib.ListN.{length}
 use Rattle.words.specs.Big.{be}
@@ -9,7 +9,7 @@ use Rattle.file.specs.declared.Opening.{Opening}
 use Rattle.file.specs.declared.Opening.the-variants.{Open, Refused}
 use Rattle.ancestry.specs.Counts.{keyOf}
 use Rattle.commit.specs.Commits.{rowOf}
-use Rattle.rules.specs.Rules.{trailerOf, sumRule, nameRule, entryRule}
+use Rattle.rules.specs.Rules.{trailerOf, entryRule}
 use Rattle.graph.specs.Chain.{widthIn, partAt, openAt, fileOf, posOf}
 use Rattle.walk.specs.Lists.{parentsAt}
 

@@ -1,56 +1,83 @@
 -- What the private functions of verification hand each other. No rule of the paper is here.
-use Prim.Native.Nat.{ℕ, _+_, _≤_, _<_, max}
+use Prim.Native.Nat.{ℕ, _+_, _-_, _*_, _≤_, _<_, min, max}
 use mathlib.Core.Path.{_≡_}
 use mathlib.Core.List.{List}
 use mathlib.Core.Bool.{Bool, not}
-use lib.ListN.{length, getD}
-use lib.Dec.{leb}
+use lib.ListN.{length, getD, take, drop}
+use lib.Dec.{ltb, leb, eqb}
+use Rattle.words.specs.Big.{be}
 use Rattle.words.specs.First.{_if_else_}
-use Rattle.ancestry.specs.Graph.{highestBelow}
+use Rattle.ancestry.specs.Graph.{highestBelow, cap}
 use Rattle.ancestry.specs.Counts.{countsOf}
-use Rattle.chunk.specs.Index.{absent}
 use Rattle.list.specs.List.{recordsOf}
-use Rattle.fit.specs.Fits.{fanPart, idsPart, rowsPart, edgePart}
 use Rattle.file.specs.declared.File.{File}
 use Rattle.file.specs.declared.Opening.{Opening}
-use Rattle.file.specs.declared.Opening.the-variants.{Open, Refused}
-use Rattle.steps.specs.Walks.{Walked, ends, parent, positions}
-use Rattle.graph.specs.Chain.{startAt, partAt, openAt, firstAt, openFrom, Listed}
-use Rattle.walk.specs.Lists.{walkIn}
-use Rattle.audit.specs.Files.{genIn, genAt, keyAt}
-use Rattle.audit.specs.Rules.{headRule, headPlace, commitRule, badCommit, commitRules}
+use Rattle.file.specs.declared.Opening.the-variants.{Open, Refused as Shut}
+use Rattle.commit.specs.declared.Asked.{Asked}
+use Rattle.commit.specs.declared.Asked.the-variants.{Commit as Is, Refused}
+use Rattle.steps.specs.Walks.{Walked, ends, parent, firstWalk}
+use Rattle.tries.specs.Tries.{stoppedBy}
+use Rattle.tries.specs.declared.Tried.{Tried}
+use Rattle.graph.specs.Chain.{widthIn, startAt, openAt, firstAt, openFrom, Listed}
+use Rattle.audit.specs.Files.{genAt, keyAt}
+use Rattle.audit.specs.Rules.{headRule, headPlace, badCommit, commitRules}
 use Rattle.audit.specs.declared.tables.Tables.{Tables}
 use Rattle.audit.specs.declared.meets.Met.{Met}
-use Rattle.audit.specs.declared.commits.Tried.{Tried}
+use Rattle.audit.specs.declared.commits.Tally.{Tally}
 use Rattle.audit.specs.declared.commits.Scanned.{Scanned}
 use Rattle.audit.specs.declared.heads.Judged.{Judged}
 
--- a table has the values of f up to and with n
-abbrev pub Filled : (ℕ → ℕ) → List ℕ → ℕ → Type 0
-Filled f t n = (i : ℕ) → i ≤ n → getD t i 0 ≡ f i
+-- ── the table: a row of four numbers a file, and one more row ──
+
+-- where file i starts in the chain; its first position; where its CDAT chunk lies in the chain; how wide its ids are
+abbrev pub startIn : List ℕ → ℕ → ℕ
+startIn t i = getD t (i * 4) 0
+
+abbrev pub firstIn : List ℕ → ℕ → ℕ
+firstIn t i = getD t (i * 4 + 1) 0
+
+abbrev pub rowsIn : List ℕ → ℕ → ℕ
+rowsIn t i = getD t (i * 4 + 2) 0
+
+abbrev pub wideIn : List ℕ → ℕ → ℕ
+wideIn t i = getD t (i * 4 + 3) 0
+
+-- the bytes of file i
+abbrev pub partBy : List ℕ → List ℕ → ℕ → List ℕ
+partBy c t i = take (startIn t (i + 1) - startIn t i) (drop (startIn t i) c)
+
+-- base id j of `ids` is not the w bytes right before where the next file starts, which are there for each of i files
+unfoldable pub alienBy : List ℕ → List ℕ → ℕ → List ℕ → ℕ → Bool
+alienBy c t w ids j = not (eqb (be w ids (j * w)) (be w c (startIn t (j + 1) - w)))
+
+abbrev pub Reach : List ℕ → ℕ → ℕ → Type 0
+Reach t i w = (j : ℕ) → j < i → w ≤ startIn t (j + 1)
 
 -- where a file's CDAT chunk lies in it
-unfoldable pub rowsIn : Opening → ℕ
-rowsIn (Open f) = f .cdat
-rowsIn (Refused r) = 0
+unfoldable pub rowsOf : Opening → ℕ
+rowsOf (Open f) = f .cdat
+rowsOf (Shut r) = 0
 
 module _ (z : ℕ) (c l : List ℕ) where
-  -- where the CDAT chunk of file i lies in the chain
-  unfoldable pub rowsAt : ℕ → ℕ
-  rowsAt i = startAt z c l i + rowsIn (openAt z c l i)
-
-  -- the tables say where each file starts, in bytes and in positions, and where its CDAT chunk lies; every file is open
-  pub record Tabled (starts firsts rows : List ℕ) : Type 0 where
+  -- every file is open, and the table is right
+  pub record Tabled (t : List ℕ) : Type 0 where
     pub listed : Listed z c l (recordsOf z l)
     pub opens : (i : ℕ) → i < recordsOf z l → (f : File) × (openAt z c l i ≡ Open f)
-    pub start : Filled (startAt z c l) starts (recordsOf z l)
-    pub first : Filled (firstAt z c l) firsts (recordsOf z l)
-    pub row : (i : ℕ) → i < recordsOf z l → getD rows i 0 ≡ rowsAt i
+    pub long : length t ≡ 1028
+    pub start : (i : ℕ) → i ≤ recordsOf z l → startIn t i ≡ startAt z c l i
+    pub first : (i : ℕ) → i ≤ recordsOf z l → firstIn t i ≡ firstAt z c l i
+    pub rows : (i : ℕ) → i < recordsOf z l → rowsIn t i ≡ startAt z c l i + rowsOf (openAt z c l i)
+    pub wide : (i : ℕ) → i < recordsOf z l → wideIn t i ≡ widthIn (openAt z c l i)
 
   -- a pass that opens each file
   pub record Opens (r : Tables) : Type 0 where
     pub refusal : r .refusal ≡ openFrom z c l 0 (recordsOf z l)
-    pub tables : r .refusal .number ≡ 0 → Tabled (r .starts) (r .firsts) (r .rows)
+    pub tables : r .refusal .number ≡ 0 → Tabled (r .table)
+
+  -- the tally of the files before file i
+  pub record Before (i : ℕ) (b : Tally) : Type 0 where
+    pub counts : b .counts ≡ countsOf (keyAt z c l) (firstAt z c l i)
+    pub highest : b .highest ≡ highestBelow (genAt z c l) (firstAt z c l i)
 
 -- what is left of a walk is met, after n parents whose highest generation is h; `limit` is one past the highest position allowed
 unfoldable pub metOf : ℕ → (ℕ → ℕ) → Walked → ℕ → ℕ → Met
@@ -59,34 +86,54 @@ metOf limit gen (parent p w) n h =
     record { number = 68; parents = n; highest = h } if leb limit p else
     metOf limit gen w (n + 1) (max h (gen p))
 
--- the chunks of file i, each as its own part
-pub record Cut (z : ℕ) (c l : List ℕ) (i w n : ℕ) (x y v e : List ℕ) (t : Bool) : Type 0 where
-  pub inner : File
-  pub opens : openAt z c l i ≡ Open inner
+-- a commit whose row was answered: its parents m, then 69
+abbrev pub triedBy : Met → ℕ → Tried
+triedBy m g =
+    stoppedBy (m .number) if ltb 0 (m .number) else
+    stoppedBy 69 if not (eqb g (min (1 + m .highest) cap)) else
+    record { number = 0; parents = m .parents; generation = g }
+
+unfoldable pub triedOf : ℕ → (ℕ → ℕ) → Asked → Bool → List ℕ → Tried
+triedOf limit gen (Refused r) there edge = stoppedBy (r .number)
+triedOf limit gen (Is x) there edge = triedBy (metOf limit gen (firstWalk (x .first) (x .second) there edge) 0 0) (x .generation)
+
+-- 60 to 63 of file i were tried
+pub record JudgedAs (z : ℕ) (c l : List ℕ) (i : ℕ) (r : Judged) : Type 0 where
+  pub number : r .number ≡ headRule z c l i
+  pub place : r .place ≡ headPlace z c l i
+
+-- each commit of file i was tried, with the tally of the files before it
+pub record ScannedAs (z : ℕ) (c l : List ℕ) (i : ℕ) (r : Scanned) : Type 0 where
+  pub number : r .number ≡ commitRules z c l i
+  pub place : r .place ≡ badCommit z c l i
+  pub tally : r .number ≡ 0 → Before z c l (i + 1) (r .tally)
+
+-- ── for who does not read the list: some list is right for the table, and what is answered is so for each that is ──
+
+-- there is a file i
+pub record Home (c t : List ℕ) (i : ℕ) : Type 0 where
+  pub z : ℕ
+  pub l : List ℕ
+  pub tabled : Tabled z c l t
   pub below : i < recordsOf z l
-  pub width : w ≡ inner .width
-  pub count : n ≡ inner .commits
-  pub fan : x ≡ fanPart (partAt z c l i) inner
-  pub ids : y ≡ idsPart (partAt z c l i) inner
-  pub rows : v ≡ rowsPart (partAt z c l i) inner
-  pub edge : e ≡ edgePart (partAt z c l i) inner
-  pub there : t ≡ not (absent (inner .edge))
 
-module _ (z : ℕ) (c l : List ℕ) (i : ℕ) where
-  -- commit k of file i was tried
-  pub record TriedAs (k : ℕ) (r : Tried) : Type 0 where
-    pub number : r .number ≡ commitRule z c l i k
-    pub parents : r .number ≡ 0 → r .parents ≡ length (positions (walkIn (partAt z c l i) (openAt z c l i) k))
-    pub generation : r .number ≡ 0 → r .generation ≡ genIn (partAt z c l i) (openAt z c l i) k
+-- and b is the tally of the files before it
+pub record Starts (c t : List ℕ) (i : ℕ) (b : Tally) : Type 0 where
+  pub home : Home c t i
+  pub before : Before (home .z) c (home .l) i b
 
-  -- 60 to 63 of file i were tried
-  pub record JudgedAs (r : Judged) : Type 0 where
-    pub number : r .number ≡ headRule z c l i
-    pub place : r .place ≡ headPlace z c l i
+module _ (c t : List ℕ) (i : ℕ) where
+  -- the generation at position g
+  abbrev pub GenAs : ℕ → ℕ → Type 0
+  GenAs g r = (z : ℕ) (l : List ℕ) → Tabled z c l t → i < recordsOf z l → r ≡ genAt z c l g
 
-  -- each commit of file i was tried, with the statistics of the files before it
-  pub record ScannedAs (r : Scanned) : Type 0 where
-    pub number : r .number ≡ commitRules z c l i
-    pub place : r .place ≡ badCommit z c l i
-    pub counts : r .number ≡ 0 → r .counts ≡ countsOf (keyAt z c l) (firstAt z c l (i + 1))
-    pub highest : r .number ≡ 0 → r .highest ≡ highestBelow (genAt z c l) (firstAt z c l (i + 1))
+  -- a walk of a commit of file i was met; a commit of it was tried; each was
+  abbrev pub MetAs : Walked → Met → Type 0
+  MetAs w r = (z : ℕ) (l : List ℕ) → Tabled z c l t → i < recordsOf z l → r ≡ metOf (firstAt z c l (i + 1)) (genAt z c l) w 0 0
+
+  abbrev pub TriedAs : Asked → Bool → List ℕ → Tried → Type 0
+  TriedAs a there edge r = (z : ℕ) (l : List ℕ) → Tabled z c l t → i < recordsOf z l
+      → r ≡ triedOf (firstAt z c l (i + 1)) (genAt z c l) a there edge
+
+  abbrev pub ScansAs : Tally → Scanned → Type 0
+  ScansAs b r = (z : ℕ) (l : List ℕ) → Tabled z c l t → i < recordsOf z l → Before z c l i b → ScannedAs z c l i r

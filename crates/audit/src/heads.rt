@@ -7,13 +7,13 @@ use types::refusal::BASE_ID;
 use types::refusal::BASES;
 use words::part::part;
 ghost use mathlib.Core.Path.{_≡_};
-ghost use Prim.Native.Nat.{_<_};
+ghost use Prim.Native.Nat.{_*_, _≤_, _<_};
+ghost use lib.ListN.{length};
+ghost use Rattle.words.specs.First.{first};
 ghost use Rattle.list.specs.List.{recordsOf};
-ghost use Rattle.fit.specs.Fits.{basePart};
 ghost use Rattle.file.specs.declared.Opening.the-variants.{Open};
 ghost use Rattle.graph.specs.Chain.{partAt, openAt};
-ghost use Rattle.audit.specs.Rules.{badBase};
-ghost use Rattle.audit.specs.Scans.{Tabled, JudgedAs};
+ghost use Rattle.audit.specs.Scans.{alienBy, Reach, Tabled, JudgedAs};
 
 // A refusal or 0, and its place.
 pub struct Judged {
@@ -21,27 +21,15 @@ pub struct Judged {
     pub place: u32,
 }
 
-// The first base id of file `i` that is not the trailer of the file it stands for, or `i`; `ids` are the base ids.
-fn bad_base(
-    chain: &[u8],
-    list: &[u8],
-    z: u32,
-    starts: &[usize; 257],
-    firsts: &[usize; 257],
-    rows: &[usize; 257],
-    i: u32,
-    f: File,
-    ids: &[u8],
-) -> u32
-    requires { ⌜ Tabled z (now chain) (now list) (now starts) (now firsts) (now rows) ⌝ }
-    requires { ⌜ (i < recordsOf z (now list)) × (openAt z (now chain) (now list) i ≡ Open f) × (now ids ≡ basePart (partAt z (now chain) (now list) i) f) × (f .bases ≡ i) ⌝ }
-    ensures { λ r. ⌜ r ≡ badBase z (now (chain .entry)) (now (list .entry)) i ⌝ }
+// The first of the `i` base ids `ids`, each of `w` bytes, that is not the trailer of the file it stands for, or `i`.
+fn bad_base(chain: &[u8], table: &[usize], i: u32, w: usize, ids: &[u8]) -> u32
+    requires { ⌜ (i * 4 < length (now table)) × (i * w ≤ length (now ids)) × Reach (now table) i w ⌝ }
+    ensures { λ r. ⌜ r ≡ first (alienBy (now (chain .entry)) (now (table .entry)) w (now (ids .entry))) 0 i ⌝ }
 {
-    let w = f.width;
     let mut j = 0;
     while j < i {
         let k = j as usize;
-        let e = starts[k + 1];
+        let e = table[k * 4 + 4];
         if !same(part(ids, k * w, w, 1), chain, e - w) {
             return j;
         }
@@ -55,14 +43,12 @@ pub(crate) fn head(
     chain: &[u8],
     list: &[u8],
     z: u32,
-    starts: &[usize; 257],
-    firsts: &[usize; 257],
-    rows: &[usize; 257],
+    table: &[usize],
     i: u32,
     s: &[u8],
     f: File,
 ) -> Judged
-    requires { ⌜ Tabled z (now chain) (now list) (now starts) (now firsts) (now rows) ⌝ }
+    requires { ⌜ Tabled z (now chain) (now list) (now table) ⌝ }
     requires { ⌜ (i < recordsOf z (now list)) × (openAt z (now chain) (now list) i ≡ Open f) × (now s ≡ partAt z (now chain) (now list) i) ⌝ }
     ensures { λ r. ⌜ JudgedAs z (now (chain .entry)) (now (list .entry)) i r ⌝ }
 {
@@ -73,7 +59,7 @@ pub(crate) fn head(
         };
     }
     let ids = part(s, f.base, f.bases as usize, f.width);
-    let j = bad_base(chain, list, z, starts, firsts, rows, i, f, ids);
+    let j = bad_base(chain, table, i, f.width, ids);
     if j < i {
         return Judged {
             number: BASE_ID,

@@ -4,7 +4,8 @@ mod heads;
 mod meets;
 mod tables;
 
-use commits::commits;
+use commits::Tally;
+use commits::scan;
 use file::Opening;
 use file::init::open;
 use graph::locate::of_file;
@@ -15,16 +16,13 @@ use types::refusal;
 use types::refusal::Refusal;
 use words::part::part;
 ghost use mathlib.Core.Path.{_≡_};
-ghost use Rattle.audit.specs.Said.{verificationSaid};
-ghost use Rattle.types.specs.Said.{Answers};
-ghost use Prim.Native.Nat.{_+_, _-_, _≤_, _<_};
+ghost use Prim.Native.Nat.{_-_, _≤_, _<_};
 ghost use Rattle.list.specs.List.{recordsOf};
-ghost use Rattle.ancestry.specs.Graph.{highestBelow, lengthOf};
-ghost use Rattle.ancestry.specs.Counts.{countsOf};
-ghost use Rattle.graph.specs.Chain.{firstAt};
-ghost use Rattle.audit.specs.Files.{genAt, keyAt};
+ghost use Rattle.ancestry.specs.Graph.{lengthOf};
 ghost use Rattle.audit.specs.Rules.{lengthBy, acceptedBy, refusedBy, verifyFrom, verification};
-ghost use Rattle.audit.specs.Scans.{Tabled};
+ghost use Rattle.audit.specs.Said.{verificationSaid};
+ghost use Rattle.audit.specs.Scans.{Tabled, Before};
+ghost use Rattle.types.specs.Said.{Answers};
 
 // The length of the longest run of parent steps, or that some commit is its own ancestor.
 pub enum Length {
@@ -70,72 +68,55 @@ fn measure(h: u32) -> Length
     Length::Steps(h - 1)
 }
 
-// Every file from `from` on, with the counts and the highest generation of the files before it.
+// Every file from `from` on, with the tally of the files before it.
 fn verify_from(
     chain: &[u8],
     list: &[u8],
     z: u32,
     n: u32,
-    starts: &[usize; 257],
-    firsts: &[usize; 257],
-    rows: &[usize; 257],
+    table: &[usize],
     from: u32,
-    before: [u32; 66],
-    top: u32,
+    before: Tally,
 ) -> Verification
-    requires { ⌜ Tabled z (now chain) (now list) (now starts) (now firsts) (now rows) ⌝ }
-    requires { ⌜ (n ≡ recordsOf z (now list)) × (from ≤ n) ⌝ }
-    requires { ⌜ (before ≡ countsOf (keyAt z (now chain) (now list)) (firstAt z (now chain) (now list) from)) × (top ≡ highestBelow (genAt z (now chain) (now list)) (firstAt z (now chain) (now list) from)) ⌝ }
+    requires { ⌜ Tabled z (now chain) (now list) (now table) ⌝ }
+    requires { ⌜ (n ≡ recordsOf z (now list)) × (from ≤ n) × Before z (now chain) (now list) from before ⌝ }
     ensures { λ r. ⌜ r ≡ verifyFrom z (now (chain .entry)) (now (list .entry)) (n - from) from ⌝ }
 {
-    let mut counts = before;
-    let mut highest = top;
+    let mut tally = before;
     let mut i = from;
     while i < n {
         let k = i as usize;
-        let at = starts[k];
-        let s = part(chain, at, starts[k + 1] - at, 1);
+        let at = table[k * 4];
+        let s = part(chain, at, table[k * 4 + 4] - at, 1);
         match open(s) {
             Opening::Refused(r) => {
                 return refused(of_file(i, r));
             }
             Opening::Open(f) => {
-                let h = head(chain, list, z, starts, firsts, rows, i, s, f);
+                let h = head(chain, list, z, table, i, s, f);
                 if 0 < h.number {
                     return refused(of_file(i, refusal::at(h.number, h.place as u64)));
                 }
-                let r = commits(
-                    chain,
-                    list,
-                    z,
-                    starts,
-                    firsts,
-                    rows,
-                    k,
-                    s,
-                    f,
-                    counts,
-                    highest,
-                );
+                let r = scan(chain, table, k, s, f, tally);
                 if 0 < r.number {
                     return refused(of_file(i, refusal::at(r.number, r.place as u64)));
                 }
-                let next = r.counts;
-                counts = next;
-                highest = r.highest;
+                let next = r.tally;
+                tally = next;
                 i += 1;
             }
         }
     }
-    accepted(firsts[n as usize], highest, counts)
+    accepted(table[n as usize * 4 + 1], tally)
 }
 
 // The answer for a chain without refusal.
-fn accepted(commits: usize, highest: u32, counts: [u32; 66]) -> Verification
+fn accepted(commits: usize, tally: Tally) -> Verification
     requires { ⌜ commits < 4294967296 ⌝ }
-    ensures { λ r. ⌜ r ≡ acceptedBy commits highest counts ⌝ }
+    ensures { λ r. ⌜ r ≡ acceptedBy commits (tally .highest) (tally .counts) ⌝ }
 {
-    let length = measure(highest);
+    let length = measure(tally.highest);
+    let counts = tally.counts;
     Verification {
         verdict: Verdict::Accepted(Summary {
             commits: commits as u32,
@@ -159,19 +140,10 @@ pub fn audit(chain: &[u8], list: &[u8]) -> Verification
     if 0 < q.number {
         return refused(q);
     }
-    let starts = t.starts;
-    let firsts = t.firsts;
-    let rows = t.rows;
-    verify_from(
-        chain,
-        list,
-        32,
-        n,
-        &starts,
-        &firsts,
-        &rows,
-        0,
-        [0u32; 66],
-        0,
-    )
+    let table = t.table;
+    let none = Tally {
+        counts: [0u32; 66],
+        highest: 0,
+    };
+    verify_from(chain, list, 32, n, &table, 0, none)
 }

@@ -6,13 +6,10 @@ use steps::step_in;
 use types::refusal::PARENT_OUT;
 use words::big::be32;
 use words::part::part;
-ghost use mathlib.Core.Path.{_≡_};
-ghost use Prim.Native.Nat.{_+_, _≤_, _<_};
-ghost use Rattle.list.specs.List.{recordsOf};
+ghost use Prim.Native.Nat.{_+_, _*_, _≤_, _<_};
+ghost use lib.ListN.{length};
 ghost use Rattle.steps.specs.Walks.{firstWalk};
-ghost use Rattle.graph.specs.Chain.{firstAt};
-ghost use Rattle.audit.specs.Files.{genAt};
-ghost use Rattle.audit.specs.Scans.{Filled, Tabled, metOf};
+ghost use Rattle.audit.specs.Scans.{firstIn, Home, GenAs, MetAs};
 
 // How a walk went: a refusal or 0, how many parents, and their highest generation.
 pub struct Met {
@@ -21,21 +18,19 @@ pub struct Met {
     pub highest: u32,
 }
 
-// The file of position `g`, by halving the table of first positions up to file `last`.
-fn file_of(chain: &[u8], list: &[u8], z: u32, firsts: &[usize; 257], last: usize, g: usize) -> usize
-    requires { ⌜ (last < recordsOf z (now list)) × (recordsOf z (now list) ≤ 256) ⌝ }
-    requires { ⌜ Filled (firstAt z (now chain) (now list)) (now firsts) (recordsOf z (now list)) ⌝ }
-    requires { ⌜ g < firstAt z (now chain) (now list) (last + 1) ⌝ }
-    ensures { λ r. ⌜ (r ≤ last) × (firstAt z (now (chain .entry)) (now (list .entry)) r ≤ g) × (g < firstAt z (now (chain .entry)) (now (list .entry)) (r + 1)) ⌝ }
+// The file of position `g`, by halving the first positions up to file `last`.
+fn file_of(table: &[usize], last: usize, g: usize) -> usize
+    requires { ⌜ (last * 4 + 5 < length (now table)) × (firstIn (now table) 0 ≤ g) × (g < firstIn (now table) (last + 1)) ⌝ }
+    ensures { λ r. ⌜ (r ≤ last) × (firstIn (now (table .entry)) r ≤ g) × (g < firstIn (now (table .entry)) (r + 1)) ⌝ }
 {
-    if firsts[last] <= g {
+    if table[last * 4 + 1] <= g {
         return last;
     }
     let mut lo = 0;
     let mut hi = last;
     while 1 < hi - lo {
         let mid = lo + (hi - lo) / 2;
-        if firsts[mid] <= g {
+        if table[mid * 4 + 1] <= g {
             lo = mid;
         } else {
             hi = mid;
@@ -45,47 +40,32 @@ fn file_of(chain: &[u8], list: &[u8], z: u32, firsts: &[usize; 257], last: usize
 }
 
 // The generation of the commit at position `g`, which is not past file `home`.
-fn gen_at(
-    chain: &[u8],
-    list: &[u8],
-    z: u32,
-    starts: &[usize; 257],
-    firsts: &[usize; 257],
-    rows: &[usize; 257],
-    w: usize,
-    home: usize,
-    g: usize,
-) -> u32
-    requires { ⌜ Tabled z (now chain) (now list) (now starts) (now firsts) (now rows) ⌝ }
-    requires { ⌜ (w ≡ 20) × (home < recordsOf z (now list)) × (g < firstAt z (now chain) (now list) (home + 1)) ⌝ }
-    ensures { λ r. ⌜ r ≡ genAt z (now (chain .entry)) (now (list .entry)) g ⌝ }
+fn gen_at(chain: &[u8], table: &[usize], home: usize, g: usize) -> u32
+    requires { ⌜ Home (now chain) (now table) home ⌝ }
+    requires { ⌜ g < firstIn (now table) (home + 1) ⌝ }
+    ensures { λ r. ⌜ GenAs (now (chain .entry)) (now (table .entry)) home g r ⌝ }
 {
-    let i = file_of(chain, list, z, firsts, home, g);
-    let from = firsts[i];
-    let cdat = part(chain, rows[i], firsts[i + 1] - from, w + 16);
+    let i = file_of(table, home, g) * 4;
+    let from = table[i + 1];
+    let w = table[i + 3];
+    let cdat = part(chain, table[i + 2], table[i + 5] - from, w + 16);
     be32(cdat, (g - from) * (w + 16) + w + 8) / 4
 }
 
 // The parents of a commit of file `home` with these two parent words.
 pub(crate) fn meet(
     chain: &[u8],
-    list: &[u8],
-    z: u32,
-    starts: &[usize; 257],
-    firsts: &[usize; 257],
-    rows: &[usize; 257],
-    w: usize,
+    table: &[usize],
     home: usize,
     first: ParentEdge,
     second: ParentEdge,
     edge: &[u8],
     there: bool,
 ) -> Met
-    requires { ⌜ Tabled z (now chain) (now list) (now starts) (now firsts) (now rows) ⌝ }
-    requires { ⌜ (w ≡ 20) × (home < recordsOf z (now list)) ⌝ }
-    ensures { λ r. ⌜ r ≡ metOf (firstAt z (now (chain .entry)) (now (list .entry)) (home + 1)) (genAt z (now (chain .entry)) (now (list .entry))) (firstWalk first second there (now (edge .entry))) 0 0 ⌝ }
+    requires { ⌜ Home (now chain) (now table) home ⌝ }
+    ensures { λ r. ⌜ MetAs (now (chain .entry)) (now (table .entry)) home (firstWalk first second there (now (edge .entry))) r ⌝ }
 {
-    let limit = firsts[home + 1];
+    let limit = table[home * 4 + 5];
     let mut phase = Phase::First;
     let mut parents = 0;
     let mut highest = 0;
@@ -104,7 +84,7 @@ pub(crate) fn meet(
                         highest,
                     };
                 }
-                let h = gen_at(chain, list, z, starts, firsts, rows, w, home, g);
+                let h = gen_at(chain, table, home, g);
                 if highest < h {
                     highest = h;
                 }

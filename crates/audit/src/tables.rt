@@ -1,4 +1,4 @@
-// One pass over the files of a chain: each is opened, and tables say where they lie.
+// One pass over the files of a chain: each is opened, and a table says where they lie.
 use file::Opening;
 use file::init::open;
 use graph::locate::of_file;
@@ -11,12 +11,11 @@ ghost use Rattle.list.specs.List.{recordsOf};
 ghost use Rattle.graph.specs.Chain.{Listed};
 ghost use Rattle.audit.specs.Scans.{Opens};
 
-// The first refusal of a file's opening; where each file starts, in bytes and in positions, the end too; and where its CDAT chunk lies in the chain.
+// The first refusal of a file's opening; and a table with a row of four numbers a file: where it starts in the chain, its first position, where its CDAT
+// chunk lies in the chain, and the width of its ids. One more row has the two ends.
 pub struct Tables {
     pub refusal: Refusal,
-    pub starts: [usize; 257],
-    pub firsts: [usize; 257],
-    pub rows: [usize; 257],
+    pub table: [usize; 1028],
 }
 
 // Opens each of the `n` files.
@@ -24,9 +23,7 @@ pub(crate) fn survey(chain: &[u8], list: &[u8], z: u32, n: u32) -> Tables
     requires { ⌜ (n ≡ recordsOf z (now list)) × Listed z (now chain) (now list) n ⌝ }
     ensures { λ r. ⌜ Opens z (now (chain .entry)) (now (list .entry)) r ⌝ }
 {
-    let mut starts = [0usize; 257];
-    let mut firsts = [0usize; 257];
-    let mut rows = [0usize; 257];
+    let mut table = [0usize; 1028];
     let mut k = 0;
     let mut at = 0;
     let mut sum = 0;
@@ -36,26 +33,23 @@ pub(crate) fn survey(chain: &[u8], list: &[u8], z: u32, n: u32) -> Tables
             Opening::Refused(r) => {
                 return Tables {
                     refusal: of_file(k, r),
-                    starts,
-                    firsts,
-                    rows,
+                    table,
                 };
             }
             Opening::Open(f) => {
-                let i = k as usize;
-                rows[i] = at + f.cdat;
+                let i = k as usize * 4;
+                table[i + 2] = at + f.cdat;
+                table[i + 3] = f.width;
                 at += s.len();
                 sum += f.commits as usize;
-                starts[i + 1] = at;
-                firsts[i + 1] = sum;
+                table[i + 4] = at;
+                table[i + 5] = sum;
                 k += 1;
             }
         }
     }
     Tables {
         refusal: refusal::at(0, 0),
-        starts,
-        firsts,
-        rows,
+        table,
     }
 }

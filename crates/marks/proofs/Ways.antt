@@ -89,6 +89,7 @@ module _ (l : List ℕ) (f : File) (i : ℕ) where
     plain =
         d
         ∙ entry-plain (f .width) (fanPart l f) (idsPart l f) (rowsPart l f) i (k .known)
+        (omega (arith, length-part (f .oidf) 1024 l (k .fits .fan)))
         (rw (length-part (f .oidl) (f .commits * f .width) l (k .fits .ids)) (run-within i (f .commits) (f .width) (k .below)))
         (rw (length-part (f .cdat) _ l (k .fits .rows)) (run-within i (f .commits) (f .width + 16) (k .below)))
 

@@ -8,15 +8,16 @@ use native.Mathlib.Nat.{suc-mul}
 use lib.Dec.{ltb, leb, eqb, lit<}
 use lib.ListN.{length, getD}
 use denote.Ref.{RefT}
-use borrow.Author.Tests.{lt-ltb, le-ltb, le-leb, lt-leb, ltb-true, ltb-false, leb-false, ne-eqb, eqb-true, eqb-false}
+use borrow.Author.Tests.{lt-ltb, le-ltb, le-leb, lt-leb, ltb-true, ltb-false, leb-false, ne-eqb, eqb-false}
 use Rattle.words.specs.Big.{be, number}
+use Rattle.words.specs.First.{_if_else_}
 use Rattle.order.specs.Order.{order}
 use Rattle.order.specs.declared.Order.{Order}
 use Rattle.order.specs.declared.Order.the-variants.{Less, Equal, Greater}
 use Rattle.words.specs.Part.{PartOf, RecordsOf}
 use Rattle.order.proofs.Ordered.{Says, told}
 use Rattle.words.proofs.Parts.{run-in, part-length, part-number}
-use Rattle.words.proofs.Rows.{hit, miss, pass, eq-not, ne-not, and-first, and-both, and-second}
+use Rattle.words.proofs.Rows.{hit, miss, pass, and-first, and-both, and-second}
 use Rattle.types.specs.Width.{known}
 use Rattle.access.specs.Lookup.{keyOf, lower, upper}
 use Rattle.rules.specs.Rules.{_or_, idRule, bucketRule, treeRule, entryRule, entryIn}
@@ -120,49 +121,56 @@ module _ (fan : List ℕ) (b c : ℕ) {t : Bool} (q : t ≡ ltb c (lower fan b))
 -- ── the ways through an entry's rule: m is what the id's said, b the bucket's, t the tree's ──
 
 module _ (w : ℕ) (fan ids rows : List ℕ) (c : ℕ) where
-  pub entry-strange : (w ≡ 20 → ⊥) → 40 ≡ entryIn w fan ids rows c
+  pub entry-strange : known w ≡ false → 40 ≡ entryIn w fan ids rows c
   unfolding entryIn
-  entry-strange h = hit 40 _ _ (ne-not w 20 h)
+  entry-strange e = hit 40 _ _ (ap not e)
 
-  module _ (e : w ≡ 20) where
-    pub entry-ids : length ids < c * w + w → 40 ≡ entryIn w fan ids rows c
+  module _ (e : known w ≡ true) where
+    pub entry-fan : length fan < 1024 → 40 ≡ entryIn w fan ids rows c
     unfolding entryIn
-    entry-ids h = miss 40 _ _ 40 (eq-not w 20 e) (hit 40 _ _ (lt-ltb (length ids) (c * w + w) h))
+    entry-fan h = miss 40 _ _ 40 (ap not e) (hit 40 _ _ (lt-ltb (length fan) 1024 h))
 
-    module _ (h : c * w + w ≤ length ids) where
-      pub entry-rows : length rows < c * (w + 16) + (w + 16) → 40 ≡ entryIn w fan ids rows c
+    module _ (f : 1024 ≤ length fan) where
+      fan-there : {r : ℕ} → r ≡ (40 if ltb (length ids) (c * w + w) else
+          40 if ltb (length rows) (c * (w + 16) + (w + 16)) else
+          entryRule w fan ids rows c) → r ≡ entryIn w fan ids rows c
       unfolding entryIn
-      entry-rows g =
-          miss 40 _ _ 40 (eq-not w 20 e)
-          (miss 40 _ _ 40 (le-ltb (length ids) (c * w + w) h) (hit 40 _ _ (lt-ltb (length rows) (c * (w + 16) + (w + 16)) g)))
+      fan-there h = miss 40 _ _ _ (ap not e) (miss 40 _ _ _ (le-ltb (length fan) 1024 f) h)
 
-      module _ (g : c * (w + 16) + (w + 16) ≤ length rows) where
-        entry-there : entryRule w fan ids rows c ≡ entryIn w fan ids rows c
-        unfolding entryIn
-        entry-there =
-            miss 40 _ _ _ (eq-not w 20 e)
-            (miss 40 _ _ _ (le-ltb (length ids) (c * w + w) h) (miss 40 _ _ _ (le-ltb (length rows) (c * (w + 16) + (w + 16)) g) refl))
+      pub entry-ids : length ids < c * w + w → 40 ≡ entryIn w fan ids rows c
+      entry-ids h = fan-there (hit 40 _ _ (lt-ltb (length ids) (c * w + w) h))
 
-        module _ {m : ℕ} (p : m ≡ idRule w ids c) where
-          pub entry-id : 0 < m → m ≡ entryIn w fan ids rows c
-          unfolding entryRule
-          entry-id y = p ∙ or-hit _ _ (omega arith) ∙ entry-there
+      module _ (h : c * w + w ≤ length ids) where
+        pub entry-rows : length rows < c * (w + 16) + (w + 16) → 40 ≡ entryIn w fan ids rows c
+        entry-rows g =
+            fan-there (miss 40 _ _ 40 (le-ltb (length ids) (c * w + w) h) (hit 40 _ _ (lt-ltb (length rows) (c * (w + 16) + (w + 16)) g)))
 
-          module _ (y : m ≤ 0) {b : ℕ} (q : b ≡ bucketRule fan (getD ids (c * w) 0) c) where
-            past : bucketRule fan (getD ids (c * w) 0) c or treeRule w rows c ≡ entryIn w fan ids rows c
+        module _ (g : c * (w + 16) + (w + 16) ≤ length rows) where
+          entry-there : entryRule w fan ids rows c ≡ entryIn w fan ids rows c
+          entry-there =
+              fan-there
+              (miss 40 _ _ _ (le-ltb (length ids) (c * w + w) h) (miss 40 _ _ _ (le-ltb (length rows) (c * (w + 16) + (w + 16)) g) refl))
+
+          module _ {m : ℕ} (p : m ≡ idRule w ids c) where
+            pub entry-id : 0 < m → m ≡ entryIn w fan ids rows c
             unfolding entryRule
-            past = sym (or-miss _ (omega arith)) ∙ entry-there
+            entry-id y = p ∙ or-hit _ _ (omega arith) ∙ entry-there
 
-            pub entry-bucket : 0 < b → b ≡ entryIn w fan ids rows c
-            entry-bucket x = q ∙ or-hit _ _ (omega arith) ∙ past
+            module _ (y : m ≤ 0) {b : ℕ} (q : b ≡ bucketRule fan (getD ids (c * w) 0) c) where
+              past : bucketRule fan (getD ids (c * w) 0) c or treeRule w rows c ≡ entryIn w fan ids rows c
+              unfolding entryRule
+              past = sym (or-miss _ (omega arith)) ∙ entry-there
 
-            pub entry-tree : b ≤ 0 → {t : ℕ} → t ≡ treeRule w rows c → t ≡ entryIn w fan ids rows c
-            entry-tree x d = d ∙ sym (or-miss _ (omega arith)) ∙ past
+              pub entry-bucket : 0 < b → b ≡ entryIn w fan ids rows c
+              entry-bucket x = q ∙ or-hit _ _ (omega arith) ∙ past
 
-  -- chunks that have entry c: the rules themselves
-  pub entry-plain : known w ≡ true → c * w + w ≤ length ids → c * (w + 16) + (w + 16) ≤ length rows
+              pub entry-tree : b ≤ 0 → {t : ℕ} → t ≡ treeRule w rows c → t ≡ entryIn w fan ids rows c
+              entry-tree x d = d ∙ sym (or-miss _ (omega arith)) ∙ past
+
+  -- chunks that have entry c, and a whole fan: the rules themselves
+  pub entry-plain : known w ≡ true → 1024 ≤ length fan → c * w + w ≤ length ids → c * (w + 16) + (w + 16) ≤ length rows
       → entryIn w fan ids rows c ≡ entryRule w fan ids rows c
-  entry-plain k h g = sym (entry-there (eqb-true w 20 k) h g)
+  entry-plain k f h g = sym (entry-there k f h g)
 
   -- ── what no refusal says, and what gives none ──
 

@@ -7,14 +7,14 @@ use native.Mathlib.Omega.{arith}
 use lib.Dec.{eqb, lit<}
 use lib.ListN.{length, take}
 use denote.Ref.{RefT}
-use borrow.Author.Tests.{lt-ltb, le-ltb, eq-eqb, ne-eqb, eqb-true, eqb-false, not-false}
+use borrow.Author.Tests.{lt-ltb, le-ltb, le-leb, lt-leb, eq-eqb, ne-eqb, eqb-true, eqb-false, not-false}
 use Rattle.words.specs.Big.{be, number}
 use Rattle.words.specs.Part.{PartOf}
 use Rattle.words.proofs.Parts.{part-length, part-number}
 use Rattle.words.proofs.Rows.{hit, miss, pass, eq-not, ne-not}
 use Rattle.sha1.specs.Fips.{sha1Of}
 use Rattle.types.specs.Width.{known}
-use Rattle.list.specs.List.{kindAt, claimAt}
+use Rattle.list.specs.List.{recordsOf, kindAt, claimAt}
 use Rattle.rules.specs.Rules.{trailerOf, sumRule, nameRule, trailing, sumIn, nameIn}
 use Rattle.rules.specs.Facts.{Summed, Named}
 
@@ -37,9 +37,20 @@ pub sum-plain : (w : ℕ) (p : List ℕ) → known w ≡ true → w ≤ length p
 unfolding sumIn
 sum-plain w p k h = sym (trailer-there w p (sumRule w p) (eqb-true w 20 k) h)
 
-pub name-plain : (w z : ℕ) (l : List ℕ) (k : ℕ) (p : List ℕ) → known w ≡ true → w ≤ length p → nameIn w z l k p ≡ nameRule w z l k p
-unfolding nameIn
-name-plain w z l k p e h = sym (trailer-there w p (nameRule w z l k p) (eqb-true w 20 e) h)
+-- the ways to the rule of the name: a record that is not in the list, and the rule of the trailer; n is how many there are
+module _ (w z : ℕ) (l : List ℕ) (k : ℕ) (p : List ℕ) {n : ℕ} (e : n ≡ recordsOf z l) where
+  pub name-out : n ≤ k → 40 ≡ nameIn w z l k p
+  unfolding nameIn
+  name-out h = hit 40 _ _ (le-leb (recordsOf z l) k (omega arith))
+
+  pub name-there : k < n → {r : ℕ} → r ≡ trailing w p (nameRule w z l k p) → r ≡ nameIn w z l k p
+  unfolding nameIn
+  name-there h d = miss 40 _ _ _ (lt-leb (recordsOf z l) k (omega arith)) d
+
+-- a record of the list, and bytes that have a trailer: the rule itself
+pub name-plain : (w z : ℕ) (l : List ℕ) (k : ℕ) (p : List ℕ) → k < recordsOf z l → known w ≡ true → w ≤ length p
+    → nameIn w z l k p ≡ nameRule w z l k p
+name-plain w z l k p b e h = sym (name-there w z l k p refl b (trailer-there w p (nameRule w z l k p) (eqb-true w 20 e) h))
 
 -- 62: the trailer was compared with a digest d
 pub sum-said : {w : ℕ} (p : List ℕ) {d : List ℕ} {t : Bool} → length d ≡ w → d ≡ sha1Of (take (length p - w) p)

@@ -8,7 +8,7 @@ use Rattle.words.specs.Big.{be, number}
 use Rattle.words.specs.First.{_if_else_}
 use Rattle.sha1.specs.Fips.{sha1Of}
 use Rattle.types.specs.Width.{known}
-use Rattle.list.specs.List.{kindAt, claimAt}
+use Rattle.list.specs.List.{recordsOf, kindAt, claimAt}
 use Rattle.access.specs.Lookup.{keyOf, lower, upper}
 
 infixr 9 _or_
@@ -57,7 +57,7 @@ treeRule w rows c = 67 if eqb (be w rows (c * (w + 16))) 0 else 0
 unfoldable pub entryRule : ℕ → List ℕ → List ℕ → List ℕ → ℕ → ℕ
 entryRule w fan ids rows c = idRule w ids c or bucketRule fan (getD ids (c * w) 0) c or treeRule w rows c
 
--- ── on bytes that may be too short: 40 ──
+-- ── on bytes that may be too short, or a record that is not in the list: 40 ──
 
 unfoldable pub trailing : ℕ → List ℕ → ℕ → ℕ
 trailing w p rest =
@@ -69,11 +69,14 @@ unfoldable pub sumIn : ℕ → List ℕ → ℕ
 sumIn w p = trailing w p (sumRule w p)
 
 unfoldable pub nameIn : ℕ → ℕ → List ℕ → ℕ → List ℕ → ℕ
-nameIn w z l k p = trailing w p (nameRule w z l k p)
+nameIn w z l k p =
+    40 if leb (recordsOf z l) k else
+    trailing w p (nameRule w z l k p)
 
 unfoldable pub entryIn : ℕ → List ℕ → List ℕ → List ℕ → ℕ → ℕ
 entryIn w fan ids rows c =
     40 if not (known w) else
+    40 if ltb (length fan) 1024 else
     40 if ltb (length ids) (c * w + w) else
     40 if ltb (length rows) (c * (w + 16) + (w + 16)) else
     entryRule w fan ids rows c

@@ -1,5 +1,6 @@
 // Refusals 62 to 67: the trailer, the name, and a commit's entry. Each is a number, or 0 for none.
 use list::claims;
+use list::count;
 use list::kind_at;
 use order::Order;
 use order::compare;
@@ -13,13 +14,15 @@ use types::refusal::ID_ZERO;
 use types::refusal::NAME;
 use types::refusal::POSITION;
 use types::refusal::TREE_ZERO;
+use types::width::known;
 use words::big::be32;
 use words::part::part;
 ghost use mathlib.Core.Path.{_≡_};
-ghost use mathlib.Core.Bool.{not};
+ghost use mathlib.Core.Bool.{true, not};
 ghost use Prim.Native.Nat.{_+_, _-_, _*_, _≤_, _<_};
 ghost use lib.Dec.{eqb, leb, ltb};
 ghost use lib.ListN.{length, take};
+ghost use Rattle.types.specs.Width.{known};
 ghost use Rattle.words.specs.Big.{be, number};
 ghost use Rattle.words.specs.Part.{PartOf};
 ghost use Rattle.sha1.specs.Fips.{sha1Of};
@@ -73,6 +76,9 @@ fn other(list: &[u8], z: u32, k: u32, s: &[u8], w: usize) -> bool
 pub fn name_in(list: &[u8], z: u32, k: u32, s: &[u8], w: usize) -> u32
     ensures { λ r. ⌜ r ≡ nameIn w z (now (list .entry)) k (now (s .entry)) ⌝ }
 {
+    if count(list, z) <= k as usize {
+        return POSITION;
+    }
     if w != 20 {
         return POSITION;
     }
@@ -104,7 +110,7 @@ fn above(x: &[u8], ids: &[u8], at: usize) -> bool
 
 // Refusals 64 and 65 of id `c`.
 fn id_rule(ids: &[u8], w: usize, c: u32) -> u32
-    requires { ⌜ (w ≡ 20) × (c * w + w ≤ length (now ids)) ⌝ }
+    requires { ⌜ (known w ≡ true) × (c * w + w ≤ length (now ids)) ⌝ }
     ensures { λ r. ⌜ r ≡ idRule w (now (ids .entry)) c ⌝ }
 {
     let at = (c as usize) * w;
@@ -145,7 +151,7 @@ fn bucket_rule(fan: &[u8], b: u8, c: u32) -> u32
 
 // Refusal 67 of entry `c`.
 fn tree_rule(rows: &[u8], w: usize, c: u32) -> u32
-    requires { ⌜ (w ≡ 20) × (c * (w + 16) + (w + 16) ≤ length (now rows)) ⌝ }
+    requires { ⌜ (known w ≡ true) × (c * (w + 16) + (w + 16) ≤ length (now rows)) ⌝ }
     ensures { λ r. ⌜ r ≡ treeRule w (now (rows .entry)) c ⌝ }
 {
     if zero(part(rows, (c as usize) * (w + 16), w, 1)) {
@@ -158,7 +164,10 @@ fn tree_rule(rows: &[u8], w: usize, c: u32) -> u32
 pub fn entry_in(fan: &[u8], ids: &[u8], rows: &[u8], w: usize, c: u32) -> u32
     ensures { λ r. ⌜ r ≡ entryIn w (now (fan .entry)) (now (ids .entry)) (now (rows .entry)) c ⌝ }
 {
-    if w != 20 {
+    if !known(w) {
+        return POSITION;
+    }
+    if fan.len() < 1024 {
         return POSITION;
     }
     let i = c as usize;

@@ -1,26 +1,15 @@
 -- The commits of a file in turn: the ways through one, what a loop over them keeps, and what it comes to.
 use Prim.Native.Nat.{ℕ, zero, suc, _+_, _*_, _≤_, _<_, min, max}
 use mathlib.Core.List.{List}
-use mathlib.Core.Bool.{Bool, not}
-use mathlib.Core.Path.{_≡_, refl, sym, ap, ap₂, subst, _∙_}
+use mathlib.Core.Path.{_≡_, refl, sym, ap, _∙_}
 use native.Mathlib.Omega.{arith}
-use denote.Ref.{RefT}
 use lib.Dec.{ltb}
-use lib.ListN.{length, getD, set, replicate, take, drop}
-use borrow.Author.Tests.{le-ltb}
-use Rattle.words.specs.First.{refuse}
-use Rattle.words.specs.Part.{RecordsOf}
-use Rattle.words.proofs.Parts.{length-part, records-in, run-in}
-use Rattle.words.proofs.Rows.{miss}
-use Rattle.chunk.specs.Index.{absent, startOf, sizeOf}
-use Rattle.fit.specs.Facts.{Opened}
-use Rattle.file.specs.declared.File.{File}
+use lib.ListN.{getD, set, replicate}
 use Rattle.ancestry.specs.Graph.{highestBelow}
 use Rattle.ancestry.specs.Counts.{keyOf, countsOf, lowestBelow}
 use Rattle.ancestry.proofs.Counts.{counts-none}
-use Rattle.ancestry.proofs.Scans.{Sofar, sofar-begins, sofar-next, sofar-stops, sofar-ends, highest-adds, lowest-begins, lowest-adds, counts-adds, counts-small}
-use Rattle.fit.proofs.Fitting.{run-within}
-use Rattle.commit.specs.Commits.{commitOf, commitIn, rowRule}
+use Rattle.ancestry.proofs.Scans.{sofar-begins, highest-adds, lowest-begins, lowest-adds}
+use Rattle.commit.specs.Commits.{commitOf}
 use Rattle.steps.specs.Walks.{endOf, countOf}
 use Rattle.commit.specs.declared.Commit.{Commit}
 use Rattle.steps.specs.declared.Counted.{Counted}
@@ -28,85 +17,54 @@ use Rattle.steps.specs.declared.Counted.the-variants.{Count, Refused as Stopped
 use Rattle.steps.proofs.Walking.{count-all, count-short}
 use Rattle.commit.specs.declared.Asked.{Asked}
 use Rattle.commit.specs.declared.Asked.the-variants.{Commit as Is, Refused}
-use Rattle.types.specs.declared.refusal.Refusal.{Refusal}
-use Rattle.rules.specs.Rules.{entryRule, entryIn}
-use Rattle.traverse.specs.Traversal.{Parts, partsOf, genIn, walkIn, parentsIn, commitRule, bad, badCommit, commitRules, keyIn}
-use Rattle.traverse.specs.Scans.{Holds, TriedAs, lowerOf, ScannedAs}
-use Rattle.traverse.specs.declared.commits.Tried.{Tried}
+use Rattle.traverse.specs.Traversal.{genIn, walkIn, parentsIn, commitRule, bad, badCommit, commitRules, keyIn}
+use Rattle.traverse.specs.Scans.{triedBy, triedOf, lowerOf, ScannedAs}
 use Rattle.traverse.specs.declared.commits.Scanned.{Scanned}
-use Rattle.rules.proofs.Entries.{or-hit, or-miss, entry-plain}
+use Rattle.rules.proofs.Entries.{or-hit, or-miss}
+use Rattle.tries.specs.Tries.{Parts, Holds, rowIn, stoppedBy, Told}
+use Rattle.tries.specs.declared.Tried.{Tried}
+use Rattle.tries.proofs.Trials.{commitIs, row-bad, row-fine, Going, going-stops, going-small, going-next, going-ends}
 
--- ── one commit ──
+-- ── one commit: a is how its row was answered, r how it went ──
 
-module _ {q : Parts} {n : ℕ} (i : ℕ) (o : Holds q n) (l : i < n) where
-  rows-room : i * (q .width + 16) + (q .width + 16) ≤ length (q .rows)
-  rows-room = let z = run-within i n (q .width + 16) l in omega (arith, o .rows)
+module _ {q : Parts} {n : ℕ} (i : ℕ) (o : Holds q n) (l : i < n) {a : Asked} (e : a ≡ rowIn (q .width) (q .fan) (q .ids) (q .rows) i)
+    {r : Tried} (d : r ≡ triedOf a (q .there) (q .edge)) where
+  abbrev counted : Commit → Counted
+  counted x = countOf (x .first) (x .second) (q .there) (q .edge)
 
-  -- the entry's rules are tried where the entry lies in the parts
-  pub entry-is : entryIn (q .width) (q .fan) (q .ids) (q .rows) i ≡ entryRule (q .width) (q .fan) (q .ids) (q .rows) i
-  entry-is =
-      let z = run-within i n (q .width) l in
-      entry-plain (q .width) (q .fan) (q .ids) (q .rows) i (o .known) (omega (arith, o .ids)) rows-room
+  -- the walk's way, where the row is there
+  walked : {x : Commit} → a ≡ Is x → (y : Counted) → counted x ≡ y
+      → Told (commitRule q i) (parentsIn q i) (genIn q i) r
+  unfolding commitRule triedOf triedBy
+  walked {x} p y c =
+      let (none, row) = row-fine i o l e p in
+      let v : y ≡ counted (commitIs q i) = sym c ∙ rw row in
+      let w : r ≡ triedBy (x .generation) y = d ∙ rw (p, c) in
+      go y v w (sym (or-miss _ none)) (ap (λ (c : Commit). c .generation) row)
+    where
+      go : {k g : ℕ} (y : Counted) → y ≡ counted (commitIs q i)
+          → r ≡ triedBy g y → endOf (walkIn q i) ≡ k → g ≡ genIn q i → Told k (parentsIn q i) (genIn q i) r
+      go (Count k) v w m g =
+          let z = count-all _ _ (q .there) (q .edge) v refl in
+          rw w (record { number = sym (z .0) ∙ m; parents = λ _. sym (z .1); generation = λ _. g })
+      go (Stopped k) v w m g =
+          let z = count-short _ _ (q .there) (q .edge) v refl in
+          rw w (record { number = sym (z .0) ∙ m; parents = λ b. absurd (omega (arith, z .1)); generation = λ b. absurd (omega (arith, z .1)) })
 
-  -- the commit is there
-  pub row-is : commitIn (q .width) (q .rows) i ≡ Is (commitOf (q .rows) (i * (q .width + 16) + q .width))
-  unfolding commitIn rowRule refuse
-  row-is =
-      let z : rowRule (q .width) (length (q .rows)) i ≡ 0 =
-      sym (miss 40 _ _ 0 (ap not (o .known)) (miss 40 _ 0 0 (le-ltb (length (q .rows)) _ rows-room) refl)) in
-      rw z
-
-  -- m is what the entry met
-  module _ {m : ℕ} (e : m ≡ entryIn (q .width) (q .fan) (q .ids) (q .rows) i) where
-    pub tried-entry : (r : Tried) → r .number ≡ m → 0 < m → TriedAs q i r
-    unfolding commitRule
-    tried-entry r d h =
-        let p : m ≡ entryRule (q .width) (q .fan) (q .ids) (q .rows) i = e ∙ entry-is in
-        record {
-          number = d ∙ p ∙ or-hit _ _ (omega arith);
-          parents = λ z. absurd (omega arith);
-          generation = λ z. absurd (omega arith);
-        }
-
-    -- x is what was asked for
-    module _ (h : m ≤ 0) {x : Asked} (u : x ≡ commitIn (q .width) (q .rows) i) where
-      past : (r : Tried) → r .number ≡ endOf (walkIn q i) → r .number ≡ commitRule q i
-      unfolding commitRule
-      past r d =
-          let p : entryRule (q .width) (q .fan) (q .ids) (q .rows) i ≡ 0 = omega (arith, entry-is) in
-          d ∙ sym (or-miss _ p)
-
-      pub tried-none : {r : Refusal} → x ≡ Refused r → ⊥
-      tried-none d = let z : _≡_ {A = ℕ} 0 1 = cc (row-is) in omega arith
-
-      -- v is the commit, y what its count said
-      module _ {v : Commit} (g : x ≡ Is v) {y : Counted} (d : y ≡ countOf (v .first) (v .second) (q .there) (q .edge)) where
-        row : v ≡ commitOf (q .rows) (i * (q .width + 16) + q .width)
-        row = cc (row-is)
-
-        counted : y
-            ≡ countOf (commitOf (q .rows) (i * (q .width + 16) + q .width) .first)
-            (commitOf (q .rows) (i * (q .width + 16) + q .width) .second) (q .there) (q .edge)
-        counted = d ∙ ap (λ (z : Commit). countOf (z .first) (z .second) (q .there) (q .edge)) row
-
-        pub tried-walk : {k : ℕ} → y ≡ Stopped k → (r : Tried) → r .number ≡ k → TriedAs q i r
-        tried-walk {k} b r w =
-            let z = count-short _ _ (q .there) (q .edge) counted b in
-            record {
-              number = past r (w ∙ sym (z .0));
-              parents = λ a. absurd (omega (arith, z .1));
-              generation = λ a. absurd (omega (arith, z .1));
-            }
-
-        pub tried-fine : {k : ℕ} → y ≡ Count k → (r : Tried) → r .number ≡ 0 → r .parents ≡ k → r .generation ≡ v .generation
-            → TriedAs q i r
-        tried-fine {k} b r w p t =
-            let z = count-all _ _ (q .there) (q .edge) counted b in
-            record {
-              number = past r (w ∙ sym (z .0));
-              parents = λ a. p ∙ sym (z .1);
-              generation = λ a. t ∙ ap (λ (c : Commit). c .generation) row;
-            }
+  pub tried-is : Told (commitRule q i) (parentsIn q i) (genIn q i) r
+  unfolding commitRule triedOf
+  tried-is = go a refl
+    where
+      go : (v : Asked) → a ≡ v → Told (commitRule q i) (parentsIn q i) (genIn q i) r
+      go (Refused x) p =
+          let z = row-bad i o l e p in
+          let w : r ≡ stoppedBy (x .number) = d ∙ rw p in
+          rw w (record {
+            number = z .1 ∙ or-hit _ _ (omega arith);
+            parents = λ b. absurd (omega arith);
+            generation = λ b. absurd (omega arith);
+          })
+      go (Is x) p = walked p _ refl
 
 -- ── all of them ──
 
@@ -116,16 +74,18 @@ bad-is q i = refl
 
 -- the loop stands at commit c of n: none before it is refused, and these are what they come to
 pub record Scanning (q : Parts) (n c h w m : ℕ) (t : List ℕ) : Type 0 where
-  pub sofar : Sofar (bad q) n c
-  pub highest : h ≡ highestBelow (genIn q) c
+  pub going : Going (bad q) (genIn q) (keyIn q) n c c h t
   pub lowest : w ≡ lowestBelow (genIn q) c
   pub most : m ≡ highestBelow (parentsIn q) c
-  pub counts : t ≡ countsOf (keyIn q) c
 
 pub scan-begins : (q : Parts) (n : ℕ) → Scanning q n 0 0 0 0 (replicate 66 0)
 unfolding highestBelow lowestBelow
 scan-begins q n =
-    record { sofar = sofar-begins (bad q) n; highest = refl; lowest = refl; most = refl; counts = sym (counts-none (keyIn q)) }
+    record {
+      going = record { sofar = sofar-begins (bad q) n; highest = refl; counts = sym (counts-none (keyIn q)) };
+      lowest = refl;
+      most = refl;
+    }
 
 -- the ways to the lower of two
 module _ (c old g : ℕ) where
@@ -154,11 +114,11 @@ lower-adds f (suc n) {x} {g} {r} e d q = lowest-adds f (suc n) x r e (omega arit
 
 module _ {q : Parts} {n c highest lowest most : ℕ} {counts : List ℕ} (s : Scanning q n c highest lowest most counts) where
   -- t is how commit c went
-  module _ (l : c < n) {t : Tried} (a : TriedAs q c t) where
+  module _ (l : c < n) {t : Tried} (a : Told (commitRule q c) (parentsIn q c) (genIn q c) t) where
     pub scan-stops : (r : Scanned) → 0 < t .number → r .number ≡ t .number → r .place ≡ c → ScannedAs q n r
     unfolding badCommit commitRules
     scan-stops r h d p =
-        let x = sofar-stops (commitRule q) (bad-is q) (s .sofar) l (a .number) h in
+        let x = going-stops (s .going) (commitRule q) (bad-is q) l a h in
         record {
           number = d ∙ x .1;
           place = p ∙ x .0;
@@ -169,76 +129,30 @@ module _ {q : Parts} {n c highest lowest most : ℕ} {counts : List ℕ} (s : Sc
         }
 
     module _ (h : t .number ≤ 0) {k : ℕ} (e : k ≡ keyOf (t .parents)) (b : k < 66) where
-      key-is : k ≡ keyIn q c
-      unfolding keyIn
-      key-is = e ∙ ap keyOf (a .parents (omega arith))
-
       pub scan-small : getD counts k 0 ≤ c
-      scan-small = counts-small (keyIn q) c key-is b (s .counts)
+      unfolding keyIn
+      scan-small = going-small (s .going) (commitRule q) (bad-is q) l a h e b refl
 
       pub scan-next : {high low top : ℕ} → high ≡ max highest (t .generation) → low ≡ lowerOf c lowest (t .generation)
           → top ≡ max most (t .parents) → Scanning q n (c + 1) high low top (set counts k (getD counts k 0 + 1))
+      unfolding keyIn
       scan-next {high} {low} {top} x y z =
-          let g : t .generation ≡ genIn q c = a .generation (omega arith) in
-          let p : t .parents ≡ parentsIn q c = a .parents (omega arith) in
           record {
-            sofar = sofar-next (commitRule q) (bad-is q) (s .sofar) l (a .number) h;
-            highest = highest-adds (genIn q) c highest high g (s .highest) x;
-            lowest = lower-adds (genIn q) c g (s .lowest) y;
-            most = highest-adds (parentsIn q) c most top p (s .most) z;
-            counts = counts-adds (keyIn q) c key-is b (s .counts);
+            going = going-next (s .going) (commitRule q) (bad-is q) l a h e b refl refl x;
+            lowest = lower-adds (genIn q) c (a .generation (omega arith)) (s .lowest) y;
+            most = highest-adds (parentsIn q) c most top (a .parents (omega arith)) (s .most) z;
           }
 
   pub scan-ends : n ≤ c → (r : Scanned) → r .number ≡ 0 → r .place ≡ c → r .highest ≡ highest → r .lowest ≡ lowest → r .most ≡ most
       → r .counts ≡ counts → ScannedAs q n r
   unfolding badCommit commitRules
   scan-ends l r d p h w m k =
-      let x = sofar-ends (commitRule q) (bad-is q) (s .sofar) l in
-      let e : c ≡ n = omega (arith, s .sofar .most) in
+      let x = going-ends (s .going) (commitRule q) (bad-is q) l in
       record {
         number = d ∙ x .1;
         place = p ∙ x .0;
-        highest = λ z. h ∙ s .highest ∙ ap (highestBelow (genIn q)) e;
-        lowest = λ z. w ∙ s .lowest ∙ ap (lowestBelow (genIn q)) e;
-        most = λ z. m ∙ s .most ∙ ap (highestBelow (parentsIn q)) e;
-        counts = λ z. k ∙ s .counts ∙ ap (countsOf (keyIn q)) e;
+        highest = λ z. h ∙ s .going .highest ∙ ap (highestBelow (genIn q)) (x .2);
+        lowest = λ z. w ∙ s .lowest ∙ ap (lowestBelow (genIn q)) (x .2);
+        most = λ z. m ∙ s .most ∙ ap (highestBelow (parentsIn q)) (x .2);
+        counts = λ z. k ∙ s .going .counts ∙ ap (countsOf (keyIn q)) (x .2);
       }
-
--- ── a file's parts ──
-
-parts-same : (w : ℕ) {a b c d x y z v : List ℕ} {s t : Bool} → a ≡ x → b ≡ y → c ≡ z → d ≡ v → s ≡ t
-    → _≡_ {A = Parts} (record { width = w; fan = a; ids = b; rows = c; edge = d; there = s })
-    (record { width = w; fan = x; ids = y; rows = z; edge = v; there = t })
-parts-same w p q r s t = rw (p, q, r, s, t)
-
-module _ (s : RefT (List ℕ)) {f : File} (o : Opened (s .now) f) where
-  pub file-holds : Holds (partsOf (s .now) f) (f .commits)
-  file-holds = record {
-    known = o .known;
-    ids = length-part (f .oidl) (f .commits * f .width) (s .now) (o .fitted .ids);
-    rows = length-part (f .cdat) _ (s .now) (o .fitted .rows);
-  }
-
-  -- what was cut out of its bytes
-  module _ (fan ids rows edge : RefT (List ℕ)) {there : Bool} (a : RecordsOf s (f .oidf) 256 4 fan)
-      (b : RecordsOf s (f .oidl) (f .commits) (f .width) ids) (c : RecordsOf s (f .cdat) (f .commits) (f .width + 16) rows) {at n : ℕ}
-      (p : at ≡ startOf (f .edge)) (r : n ≡ sizeOf (f .edge)) (d : RecordsOf s at n 1 edge) (t : there ≡ not (absent (f .edge))) where
-    cut-is : record { width = f .width; fan = fan .now; ids = ids .now; rows = rows .now; edge = edge .now; there = there }
-        ≡ partsOf (s .now) f
-    cut-is =
-        parts-same (f .width)
-        (records-in s fan (f .oidf) 256 4 (o .fitted .fan) a .bytes)
-        (records-in s ids (f .oidl) (f .commits) (f .width) (o .fitted .ids) b .bytes)
-        (records-in s rows (f .cdat) (f .commits) (f .width + 16) (o .fitted .rows) c .bytes)
-        (run-in s edge at n (omega (arith, o .fitted .edge)) d .bytes ∙ ap₂ (λ (i j : ℕ). take i (drop j (s .now))) r p)
-        t
-
-    pub cut-holds : Holds (record { width = f .width; fan = fan .now; ids = ids .now; rows = rows .now; edge = edge .now; there = there })
-        (f .commits)
-    cut-holds = subst (λ (q : Parts). Holds q (f .commits)) (sym cut-is) file-holds
-
-    pub cut-scanned : {r : Scanned}
-        → ScannedAs (record { width = f .width; fan = fan .now; ids = ids .now; rows = rows .now; edge = edge .now; there = there })
-        (f .commits) r
-        → ScannedAs (partsOf (s .now) f) (f .commits) r
-    cut-scanned {r} h = subst (λ (q : Parts). ScannedAs q (f .commits) r) cut-is h

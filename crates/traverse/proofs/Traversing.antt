@@ -4,14 +4,14 @@ use mathlib.Core.List.{List}
 use mathlib.Core.Bool.{Bool, true, false}
 use mathlib.Core.Path.{_≡_, refl, sym, ap, ap₂, _∙_}
 use native.Mathlib.Omega.{arith}
-use lib.Dec.{eqb}
+use lib.Dec.{eqb, lit<}
 use lib.ListN.{length}
-use borrow.Author.Tests.{lt-ltb, le-ltb, ne-eqb}
+use borrow.Author.Tests.{lt-ltb, le-ltb, ne-eqb, eqb-true, not-false}
 use Rattle.types.specs.Refusals.{refusal}
 use Rattle.types.specs.declared.refusal.Refusal.{Refusal}
 use Rattle.words.specs.First.{_if_else_, refuse}
-use Rattle.words.proofs.Rows.{hit, miss, eq-not, ne-not, refuse-some, refuse-none}
-use Rattle.list.specs.List.{listRule, listPlace}
+use Rattle.words.proofs.Rows.{hit, miss, pass, eq-not, ne-not, refuse-some, refuse-none}
+use Rattle.list.specs.List.{recordsOf, listRule, listPlace}
 use Rattle.fit.specs.Facts.{Opened}
 use Rattle.file.specs.Table.{opening}
 use Rattle.file.specs.declared.File.{File}
@@ -19,7 +19,8 @@ use Rattle.file.specs.declared.Opening.{Opening}
 use Rattle.file.specs.declared.Opening.the-variants.{Open, Refused}
 use Rattle.fit.proofs.Opens.{opened}
 use Rattle.rules.specs.Rules.{sumRule, nameRule, sumIn, nameIn}
-use Rattle.traverse.specs.Traversal.{partsOf, summaryOf, refusedBy, traverseBy, oneRule, onePlace, traversal, notPassed}
+use Rattle.traverse.specs.Traversal.{summaryOf, refusedBy, traverseBy, oneRule, onePlace, traversal, notPassed}
+use Rattle.tries.specs.Tries.{partsOf}
 use Rattle.traverse.specs.Scans.{ScannedAs}
 use Rattle.traverse.specs.declared.commits.Scanned.{Scanned}
 use Rattle.traverse.specs.declared.Verdict.the-variants.{Accepted}
@@ -67,8 +68,8 @@ module _ (z n : ℕ) (l : List ℕ) where
 refuse-miss : (n p : ℕ) (rest : Traversal) → n ≤ 0 → rest ≡ refuse n (notPassed p) rest
 refuse-miss n p rest h = sym (refuse-none (notPassed p) rest (omega arith))
 
--- a is what the trailer met, b the name
-module _ (z : ℕ) (c l : List ℕ) {f : File} (o : opening c ≡ Open f) where
+-- there is a record; a is what the trailer met, b the name
+module _ (z : ℕ) (c l : List ℕ) {f : File} (o : opening c ≡ Open f) (some : 0 < recordsOf z l) where
   facts : Opened c f
   facts = opened true c o
 
@@ -85,7 +86,7 @@ module _ (z : ℕ) (c l : List ℕ) {f : File} (o : opening c ≡ Open f) where
 
     module _ (h : a ≤ 0) {b : ℕ} (d : b ≡ nameIn (f .width) z l 0 c) where
       name-is : nameRule (f .width) z l 0 c ≡ b
-      name-is = sym (d ∙ name-plain (f .width) z l 0 c (facts .known) room)
+      name-is = sym (d ∙ name-plain (f .width) z l 0 c some (facts .known) room)
 
       pub file-name : 0 < b → refusedBy (refusal b 0) ≡ traverseBy z c l (Open f)
       unfolding traverseBy
@@ -114,6 +115,13 @@ module _ (z : ℕ) (c l : List ℕ) {f : File} (o : opening c ≡ Open f) where
 module _ (z : ℕ) (c l : List ℕ) {m : Refusal} (e : m ≡ refusal (oneRule z (length c) l) (onePlace z (length c) l)) where
   list-number : oneRule z (length c) l ≡ m .number
   list-number = sym (ap (λ (r : Refusal). r .number) e)
+
+  pub one-record : m .number ≤ 0 → length l ≡ z
+  unfolding oneRule
+  one-record h =
+      let e : oneRule z (length c) l ≡ 0 = omega (arith, list-number) in
+      let large = pass 1 _ _ (lit< tt) e in
+      eqb-true (length l) z (not-false _ (pass 30 _ _ (lit< tt) (large .1) .0))
 
   pub traversal-list : 0 < m .number → refusedBy m ≡ traversal z c l
   unfolding traversal

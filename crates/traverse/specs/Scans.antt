@@ -1,26 +1,28 @@
 -- What the private functions of a traversal hand each other. No rule of the paper is here.
-use Prim.Native.Nat.{ℕ, zero, suc, _+_, _*_, min}
+use Prim.Native.Nat.{ℕ, zero, suc, min}
 use mathlib.Core.Path.{_≡_}
-use mathlib.Core.Bool.{true}
-use lib.ListN.{length}
-use Rattle.types.specs.Width.{known}
+use mathlib.Core.List.{List}
+use mathlib.Core.Bool.{Bool}
 use Rattle.ancestry.specs.Graph.{highestBelow}
 use Rattle.ancestry.specs.Counts.{countsOf, lowestBelow}
-use Rattle.traverse.specs.Traversal.{Parts, genIn, parentsIn, commitRule, badCommit, commitRules, keyIn}
-use Rattle.traverse.specs.declared.commits.Tried.{Tried}
+use Rattle.commit.specs.declared.Asked.{Asked}
+use Rattle.commit.specs.declared.Asked.the-variants.{Commit as Is, Refused}
+use Rattle.steps.specs.Walks.{countOf}
+use Rattle.steps.specs.declared.Counted.{Counted}
+use Rattle.steps.specs.declared.Counted.the-variants.{Count, Refused as Stopped}
+use Rattle.tries.specs.Tries.{Parts, stoppedBy}
+use Rattle.tries.specs.declared.Tried.{Tried}
+use Rattle.traverse.specs.Traversal.{genIn, parentsIn, badCommit, commitRules, keyIn}
 use Rattle.traverse.specs.declared.commits.Scanned.{Scanned}
 
--- the parts hold n commits
-pub record Holds (q : Parts) (n : ℕ) : Type 0 where
-  pub known : known (q .width) ≡ true
-  pub ids : length (q .ids) ≡ n * q .width
-  pub rows : length (q .rows) ≡ n * (q .width + 16)
+-- a commit whose row was answered: its walk
+unfoldable pub triedBy : ℕ → Counted → Tried
+triedBy g (Count k) = record { number = 0; parents = k; generation = g }
+triedBy g (Stopped r) = stoppedBy r
 
--- commit i was tried
-pub record TriedAs (q : Parts) (i : ℕ) (r : Tried) : Type 0 where
-  pub number : r .number ≡ commitRule q i
-  pub parents : r .number ≡ 0 → r .parents ≡ parentsIn q i
-  pub generation : r .number ≡ 0 → r .generation ≡ genIn q i
+unfoldable pub triedOf : Asked → Bool → List ℕ → Tried
+triedOf (Refused r) there edge = stoppedBy (r .number)
+triedOf (Is x) there edge = triedBy (x .generation) (countOf (x .first) (x .second) there edge)
 
 -- the lower of two generations; that of commit 0 stands alone
 unfoldable pub lowerOf : ℕ → ℕ → ℕ → ℕ

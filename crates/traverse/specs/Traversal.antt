@@ -10,30 +10,16 @@ use Rattle.words.specs.First.{_if_else_, first, refuse}
 use Rattle.ancestry.specs.Graph.{highestBelow}
 use Rattle.ancestry.specs.Counts.{keyOf, countsOf, lowestBelow}
 use Rattle.list.specs.List.{listRule, listPlace}
-use Rattle.chunk.specs.Index.{absent}
-use Rattle.fit.specs.Fits.{fanPart, idsPart, rowsPart, edgePart}
 use Rattle.file.specs.Table.{opening}
-use Rattle.file.specs.declared.File.{File}
 use Rattle.file.specs.declared.Opening.{Opening}
 use Rattle.file.specs.declared.Opening.the-variants.{Open, Refused}
 use Rattle.commit.specs.Commits.{commitOf}
 use Rattle.steps.specs.Walks.{Walked, positions, endOf, firstWalk}
 use Rattle.rules.specs.Rules.{_or_, sumRule, nameRule, entryRule}
+use Rattle.tries.specs.Tries.{Parts, partsOf}
 use Rattle.traverse.specs.declared.Summary.{Summary}
 use Rattle.traverse.specs.declared.Verdict.the-variants.{Accepted, Refused as Not}
 use Rattle.traverse.specs.declared.Traversal.{Traversal}
-
--- a file's chunks, each as its own part; ids have `width` bytes, and `there` is whether there is an EDGE chunk
-pub record Parts : Type 0 where
-  pub width : ℕ
-  pub fan : List ℕ
-  pub ids : List ℕ
-  pub rows : List ℕ
-  pub edge : List ℕ
-  pub there : Bool
-
-abbrev pub partsOf : List ℕ → File → Parts
-partsOf p f = record { width = f .width; fan = fanPart p f; ids = idsPart p f; rows = rowsPart p f; edge = edgePart p f; there = not (absent (f .edge)) }
 
 -- ── commit i ──
 

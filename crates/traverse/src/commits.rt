@@ -3,26 +3,18 @@ use chunk::missing;
 use chunk::size;
 use chunk::start;
 use commit::Asked;
-use commit::commit_in;
 use file::File;
-use rules::entry_in;
 use steps::Counted;
 use steps::count_in;
-use types::file::Position;
+use tries::Tried;
+use tries::key;
+use tries::row_in;
+use tries::stopped;
 use words::part::part;
 ghost use mathlib.Core.Path.{_≡_};
-ghost use Prim.Native.Nat.{_<_};
 ghost use Rattle.fit.specs.Facts.{Opened};
-ghost use Rattle.ancestry.specs.Counts.{keyOf};
-ghost use Rattle.traverse.specs.Traversal.{partsOf};
-ghost use Rattle.traverse.specs.Scans.{Holds, lowerOf, TriedAs, ScannedAs};
-
-// How a commit went: a refusal or 0, how many parents, its generation.
-pub struct Tried {
-    pub number: u32,
-    pub parents: usize,
-    pub generation: u32,
-}
+ghost use Rattle.tries.specs.Tries.{Holds, partsOf};
+ghost use Rattle.traverse.specs.Scans.{triedOf, lowerOf, ScannedAs};
 
 // How the commits of a file went.
 pub struct Scanned {
@@ -34,43 +26,11 @@ pub struct Scanned {
     pub counts: [u32; 66],
 }
 
-// The key of a number of parents among the counts.
-pub fn key(n: usize) -> usize
-    ensures { λ r. ⌜ (r ≡ keyOf n) × (r < 66) ⌝ }
+// A commit, whose row was answered by `a`: its walk.
+fn attempt(a: Asked, edge: &[u8], there: bool) -> Tried
+    ensures { λ r. ⌜ r ≡ triedOf a there (now (edge .entry)) ⌝ }
 {
-    if n <= 64 { n } else { 65 }
-}
-
-fn stopped(number: u32) -> Tried
-    ensures { λ r. ⌜ r .number ≡ number ⌝ }
-{
-    Tried {
-        number,
-        parents: 0,
-        generation: 0,
-    }
-}
-
-// Refusals 64 to 67 of commit `c`, then those of its walk.
-fn attempt(
-    fan: &[u8],
-    ids: &[u8],
-    rows: &[u8],
-    edge: &[u8],
-    there: bool,
-    w: usize,
-    n: u32,
-    c: u32,
-) -> Tried
-    requires { ⌜ Holds (record { width = w; fan = now fan; ids = now ids; rows = now rows; edge = now edge; there = there }) n ⌝ }
-    requires { ⌜ c < n ⌝ }
-    ensures { λ r. ⌜ TriedAs (record { width = w; fan = now (fan .entry); ids = now (ids .entry); rows = now (rows .entry); edge = now (edge .entry); there = there }) c r ⌝ }
-{
-    let m = entry_in(fan, ids, rows, w, c);
-    if 0 < m {
-        return stopped(m);
-    }
-    match commit_in(rows, w, Position(c)) {
+    match a {
         Asked::Refused(r) => stopped(r.number),
         Asked::Commit(x) => {
             let first = x.first;
@@ -108,7 +68,8 @@ fn scan(fan: &[u8], ids: &[u8], rows: &[u8], edge: &[u8], there: bool, w: usize,
     let mut most = 0;
     let mut c = 0;
     while c < n {
-        let t = attempt(fan, ids, rows, edge, there, w, n, c);
+        let a = row_in(fan, ids, rows, w, c);
+        let t = attempt(a, edge, there);
         if 0 < t.number {
             return Scanned {
                 number: t.number,

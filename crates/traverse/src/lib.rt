@@ -16,6 +16,7 @@ ghost use mathlib.Core.Path.{_≡_};
 ghost use Rattle.traverse.specs.Said.{traversalSaid};
 ghost use Rattle.types.specs.Said.{Answers};
 ghost use Prim.Native.Nat.{_-_};
+ghost use lib.ListN.{length};
 ghost use Rattle.types.specs.Refusals.{refusal};
 ghost use Rattle.file.specs.Table.{opening};
 ghost use Rattle.file.specs.declared.Opening.the-variants.{Open};
@@ -64,7 +65,7 @@ fn one(list: &[u8], n: usize) -> Refusal
 
 // The opened file: 62, 63, then each commit.
 fn opened(chain: &[u8], list: &[u8], f: File) -> Traversal
-    requires { ⌜ opening (now chain) ≡ Open f ⌝ }
+    requires { ⌜ (opening (now chain) ≡ Open f) × (length (now list) ≡ 32) ⌝ }
     ensures { λ r. ⌜ r ≡ traverseBy 32 (now (chain .entry)) (now (list .entry)) (Open f) ⌝ }
 {
     let a = sum_in(chain, f.width);

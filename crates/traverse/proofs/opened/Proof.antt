@@ -1,6 +1,8 @@
 -- `traverse::opened` meets its contract.
+use Prim.Native.Nat.{ℕ, _/_, _<_}
 use mathlib.Core.Bool.{true}
-use mathlib.Core.Path.{ap, _∙_}
+use mathlib.Core.Path.{_≡_, ap, _∙_}
+use lib.Dec.{lit<}
 use Rattle.fit.proofs.Opens.{opened}
 use Rattle.traverse.specs.Traversal.{refusedBy}
 use Rattle.traverse.proofs.Traversing.{file-sum, file-name, file-commit, file-fine}
@@ -8,12 +10,16 @@ use borrow.Author.Needs.{needs}
 use Rattle.traverse.proofs.opened.Statement.{statement}
 use Rattle.traverse.proofs.opened.Tie as tie
 
+-- the list has one record
+one-record : {n : ℕ} → n ≡ 32 → 0 < n / 32
+one-record e = rw e (lit< tt)
+
 returns : tie.Need-returns
 returns c =
     let at-if1 = c .before .before in
     let start = at-if1 .before .before .before .before in
     c .refused .ensures ∙ ap refusedBy (c .before .at .ensures)
-    ∙ file-sum 32 _ _ (start .pre) (at-if1 .before .sum-in .ensures) (at-if1 .if1 .taken)
+    ∙ file-sum 32 _ _ (start .pre .0) (one-record (start .pre .1)) (at-if1 .before .sum-in .ensures) (at-if1 .if1 .taken)
 
 returns-2 : tie.Need-returns-2
 returns-2 c =
@@ -21,13 +27,13 @@ returns-2 c =
     let at-if1 = at-if2 .before .before in
     let start = at-if1 .before .before .before .before in
     c .refused2 .ensures ∙ ap refusedBy (c .before .at2 .ensures)
-    ∙ file-name 32 _ _ (start .pre) (at-if1 .before .sum-in .ensures) (at-if1 .if1 .left) (at-if2 .before .name-in .ensures)
+    ∙ file-name 32 _ _ (start .pre .0) (one-record (start .pre .1)) (at-if1 .before .sum-in .ensures) (at-if1 .if1 .left) (at-if2 .before .name-in .ensures)
     (at-if2 .if2 .taken)
 
 commits-requires : tie.Need-commits-requires
 commits-requires c κs =
     let start = c .before .before .before .before .before .before in
-    opened true _ (start .pre)
+    opened true _ (start .pre .0)
 
 returns-3 : tie.Need-returns-3
 returns-3 c =
@@ -36,7 +42,7 @@ returns-3 c =
     let at-if1 = at-if2 .before .before in
     let start = at-if1 .before .before .before .before in
     c .refused3 .ensures ∙ ap refusedBy (c .before .at3 .ensures)
-    ∙ file-commit 32 _ _ (start .pre) (at-if1 .before .sum-in .ensures) (at-if1 .if1 .left) (at-if2 .before .name-in .ensures)
+    ∙ file-commit 32 _ _ (start .pre .0) (one-record (start .pre .1)) (at-if1 .before .sum-in .ensures) (at-if1 .if1 .left) (at-if2 .before .name-in .ensures)
     (at-if2 .if2 .left) (at-if3 .before .before .commits .ensures) (at-if3 .if3 .taken)
 
 returns-4 : tie.Need-returns-4
@@ -44,7 +50,7 @@ returns-4 c =
     let at-if2 = c .before .before .before .before in
     let at-if1 = at-if2 .before .before in
     let start = at-if1 .before .before .before .before in
-    file-fine 32 _ _ (start .pre) (at-if1 .before .sum-in .ensures) (at-if1 .if1 .left) (at-if2 .before .name-in .ensures)
+    file-fine 32 _ _ (start .pre .0) (one-record (start .pre .1)) (at-if1 .before .sum-in .ensures) (at-if1 .if1 .left) (at-if2 .before .name-in .ensures)
     (at-if2 .if2 .left) (c .before .before .before .commits .ensures) (c .before .if3 .left)
 
 pub opened-spec : {M : Type 1} → statement M

@@ -1,7 +1,8 @@
 -- `traverse::traverse` meets its contract.
 use mathlib.Core.Path.{sym, _∙_}
+use denote.Ref.{now}
 use Rattle.types.proofs.Saying.{answers}
-use Rattle.traverse.proofs.Traversing.{traversal-list, traversal-shut, traversal-open}
+use Rattle.traverse.proofs.Traversing.{one-record, traversal-list, traversal-shut, traversal-open}
 use borrow.Author.Needs.{needs}
 use Rattle.traverse.proofs.traverse.Statement.{statement}
 use Rattle.traverse.proofs.traverse.Tie as tie
@@ -10,7 +11,12 @@ returns : tie.Need-returns
 returns c = answers (c .refused .ensures ∙ traversal-list 32 _ _ (c .before .before .before .one .ensures) (c .before .if1 .taken))
 
 opened-requires : tie.Need-opened-requires
-opened-requires c κs = sym (c .before .before .before .«open» .ensures .is) ∙ c .before .f .given .1
+opened-requires c κs =
+    let opened = c .before .before .before in
+    let list = opened .before in
+    let start = list .before .before .before .before .before in
+    let one = one-record 32 (now (start .args .chain)) (now (start .args .list)) (list .before .before .one .ensures) (list .if1 .left) in
+    (sym (opened .«open» .ensures .is) ∙ c .before .f .given .1, one)
 
 returns-2 : tie.Need-returns-2
 returns-2 c =

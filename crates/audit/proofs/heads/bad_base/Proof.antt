@@ -1,68 +1,56 @@
--- `audit::heads::bad_base` meets its contract.
-use Prim.Native.Nat.{_≤_, _<_, _-_, _*_}
-use mathlib.Core.Path.{_≡_, refl, sym, _∙_}
+-- `audit::heads::bad_base` meets its contract. The invariant: no base before j is alien, so that the first alien one from j on is the first of all. Each
+-- turn holds base j against the bytes before where file j + 1 starts. The measure is how many bases are left.
+use Prim.Native.Nat.{_+_, _-_, _*_, _≤_}
+use mathlib.Core.Bool.{not}
+use mathlib.Core.Path.{_≡_, sym, _∙_}
 use native.Mathlib.Omega.{arith}
-use native.Mathlib.Nat.{mul-le-mul-right}
+use borrow.Author.Needs.{needs}
 use denote.Ref.{now}
 use Rattle.words.specs.First.{first}
 use Rattle.words.proofs.Searches.{first-begins, first-stop, first-step, first-ends}
-use Rattle.audit.specs.Rules.{alien, badBase}
-use Rattle.audit.proofs.Heading.{wide, trailer-is, alien-is}
-use borrow.Author.Needs.{needs}
+use Rattle.fit.proofs.Fitting.{run-within}
+use Rattle.audit.specs.Scans.{alienBy}
+use Rattle.audit.proofs.Tabling.{next-start}
+use Rattle.audit.proofs.Heading.{alien-by}
 use Rattle.audit.proofs.heads.bad_base.Statement.{statement}
 use Rattle.audit.proofs.heads.bad_base.Tie as tie
 
 abbrev Inv-loop : tie.InvT-loop
-Inv-loop chain list z starts firsts rows i ids w j₀ j =
-    (j ≤ i) × (first (alien z chain list i) 0 i ≡ first (alien z chain list i) j (i - j))
+Inv-loop chain table i w ids j₀ j =
+    (j ≤ i) × (first (alienBy chain table w ids) 0 i ≡ first (alienBy chain table w ids) j (i - j))
 
 abbrev μ-loop : tie.MeasureT-loop
-μ-loop chain list z starts firsts rows i ids w j₀ j = i - j
+μ-loop chain table i w ids j₀ j = i - j
 
-loop-holds : tie.Need-loop-holds Inv-loop μ-loop
-loop-holds c = (omega arith, first-begins _ _)
+-- base j lies in the ids
+here : (t : tie.In-loop Inv-loop μ-loop)
+    → (let start = t .before .before .before .before .before in
+    t .before .loop .j * start .args .w + start .args .w ≤ start .args .i * start .args .w)
+here t = run-within _ _ _ (t .loop-test .taken)
 
-mul-part : tie.Need-mul-part Inv-loop μ-loop
-mul-part c =
-    let start = c .before .before .before .before .before .before in
-    let w = wide _ _ _ _ (start .pre .1 .1) in
-    let h : c .before .before .loop .j ≤ 256 = omega (arith, start .pre .0 .listed .few, start .pre .1 .0) in
-    let g : c .before .before .loop .j * start .args .f .width ≤ 256 * start .args .f .width = mul-le-mul-right _ h in
-    omega arith
+-- what was compared
+alien : (c : tie.After-same Inv-loop μ-loop)
+    → (let turn = c .before .before .before in let a = turn .before .before .before .before .before .args in
+    not (c .same .result) ≡ alienBy (now (a .chain)) (now (a .table)) (a .w) (now (a .ids)) (turn .before .loop .j))
+alien c =
+    let turn = c .before .before .before in
+    alien-by _ _ _ _ _ _ (omega (arith, here turn)) (c .before .part .ensures) (c .same .ensures)
 
 sub-same : tie.Need-sub-same Inv-loop μ-loop
 sub-same c =
-    let at-loop = c .before .before .before in
-    let start = at-loop .before .before .before .before in
-    let w = wide _ _ _ _ (start .pre .1 .1) in
-    omega (
-      arith,
-      trailer-is (start .args .z) (now (start .args .chain)) (now (start .args .list))
-          (start .pre .0) (at-loop .loop .j) (omega arith) (refl) .0,
-    )
+    let turn = c .before .before in
+    let start = turn .before .before .before .before .before in
+    omega (arith, next-start (now (start .args .table)) (turn .before .loop .j), start .pre .2 (turn .before .loop .j) (turn .loop-test .taken))
 
 returns : tie.Need-returns Inv-loop μ-loop
-unfolding badBase
 returns c =
-    let at-loop-test = c .before .before .before .before in
-    let start = at-loop-test .before .before .before .before .before in
-    first-stop _ _ _ (at-loop-test .before .loop .inv .1) (at-loop-test .loop-test .taken)
-    (sym (alien-is _ _ _ (start .pre .0) (start .pre .1 .0) (start .pre .1 .1) _ (start .pre .1 .2) (start .pre .1 .3) _ _
-    (at-loop-test .loop-test .taken) refl (c .before .before .part .ensures) (c .before .same .ensures)) ∙ c .if1 .taken)
+    let turn = c .before .before .before .before in
+    first-stop _ _ _ (turn .before .loop .inv .1) (turn .loop-test .taken) (sym (alien (c .before)) ∙ c .if1 .taken)
 
 loop-again : tie.Need-loop-again Inv-loop μ-loop
 loop-again c =
-    let at-loop-test = c .before .before .before .before in
-    let start = at-loop-test .before .before .before .before .before in (
-      omega arith,
-      first-step _ _ _ (at-loop-test .before .loop .inv .1) (at-loop-test .loop-test .taken)
-          (sym (alien-is _ _ _ (start .pre .0) (start .pre .1 .0) (start .pre .1 .1) _ (start .pre .1 .2) (start .pre .1 .3) _ _
-          (at-loop-test .loop-test .taken) refl (c .before .before .part .ensures) (c .before .same .ensures)) ∙ c .if1 .left),
-    )
-
-returns-2 : tie.Need-returns-2 Inv-loop μ-loop
-unfolding badBase
-returns-2 c = first-ends _ _ _ (c .before .loop .inv .1) (c .loop-test .left)
+    let turn = c .before .before .before .before in
+    (omega arith, first-step _ _ _ (turn .before .loop .inv .1) (turn .loop-test .taken) (sym (alien (c .before)) ∙ c .if1 .left))
 
 pub bad-base-spec : {M : Type 1} → statement M
 bad-base-spec =
@@ -70,12 +58,13 @@ bad-base-spec =
     (tie.spec
     Inv-loop
     μ-loop
-    loop-holds
+    (λ c. (omega arith, first-begins _ _))
     (λ c. search needs)
-    (λ c. let start = c .before .before .before .before .before in omega (arith, start .pre .0 .listed .few, start .pre .1 .0))
-    (λ c. let start = c .before .before .before .before .before in omega (arith, start .pre .0 .listed .few, start .pre .1 .0))
-    (λ c. let start = c .before .before .before .before .before in omega (arith, start .pre .0 .listed .few, start .pre .1 .0))
-    mul-part
+    (λ c. search needs)
+    (λ c. search needs)
+    (λ c. search needs)
+    (λ c. search needs)
+    (λ c. omega (arith, here (c .before)))
     (λ c κs. search needs)
     sub-same
     (λ c κs. search needs)
@@ -83,4 +72,4 @@ bad-base-spec =
     (λ c. search needs)
     (λ c. search needs)
     loop-again
-    returns-2)
+    (λ c. first-ends _ _ _ (c .before .loop .inv .1) (c .loop-test .left)))

@@ -1,45 +1,30 @@
--- `audit::meets::file_of` meets its contract.
-use Prim.Native.Nat.{_+_, _-_, _/_, _≤_, _<_}
-use mathlib.Core.Path.{_≡_}
+-- `audit::meets::file_of` meets its contract. The invariant: position g stands at file lo or later, and before file hi, which is at most `last`. The first
+-- test makes hi more than lo; each turn takes the half that keeps this, by the first position of the file in the middle. The measure is hi - lo.
+use Prim.Native.Nat.{_+_, _-_, _≤_, _<_}
+use mathlib.Core.Path.{_≡_, ap}
+use mathlib.Core.Logic.{⊎-elim}
 use native.Mathlib.Omega.{arith}
+use denote.Ref.{now}
 use borrow.Author.Needs.{needs}
-use Rattle.words.specs.Sums.{before}
-use Rattle.graph.specs.Chain.{countAt, firstAt}
-use Rattle.audit.proofs.Tabling.{some-before, none-before}
+use Rattle.words.proofs.Numbers.{le-or-lt}
+use Rattle.audit.specs.Scans.{firstIn}
 use Rattle.audit.proofs.meets.file_of.Statement.{statement}
 use Rattle.audit.proofs.meets.file_of.Tie as tie
 
 abbrev Inv-loop : tie.InvT-loop
-Inv-loop chain list z firsts last g lo₀ hi₀ lo hi = (lo < hi) × (hi ≤ last) × (firstAt z chain list lo ≤ g) × (g < firstAt z chain list hi)
+Inv-loop table last g lo₀ hi₀ lo hi = (lo < hi) × (hi ≤ last) × (firstIn table lo ≤ g) × (g < firstIn table hi)
 
 abbrev μ-loop : tie.MeasureT-loop
-μ-loop chain list z firsts last g lo₀ hi₀ lo hi = hi - lo
-
-returns : tie.Need-returns Inv-loop μ-loop
-returns c =
-    let start = c .before .before in
-    (omega arith, omega (arith, start .pre .1 .0 (start .args .last) (omega arith)), start .pre .1 .1)
+μ-loop table last g lo₀ hi₀ lo hi = hi - lo
 
 loop-holds : tie.Need-loop-holds Inv-loop μ-loop
 loop-holds c =
     let start = c .before .before in
-    let n = countAt (start .args .z) (start .args .chain .now) (start .args .list .now) in
-    let h : start .args .g < before n (start .args .last) = omega (arith, start .pre .1 .0 (start .args .last) (omega arith)) in
-    (some-before n _ _ h, omega arith, none-before n _, h)
-
-loop-again : tie.Need-loop-again Inv-loop μ-loop
-loop-again c =
-    let at-loop = c .before .before .before in
-    let o = at-loop .loop in
-    let e = at-loop .before .before .before .pre .1 .0 (o .lo + (o .hi - o .lo) / 2) (omega arith) in
-    (omega arith, omega arith, omega arith, o .inv .3)
-
-loop-again-2 : tie.Need-loop-again-2 Inv-loop μ-loop
-loop-again-2 c =
-    let at-loop = c .before .before .before in
-    let o = at-loop .loop in
-    let e = at-loop .before .before .before .pre .1 .0 (o .lo + (o .hi - o .lo) / 2) (omega arith) in
-    (omega arith, omega arith, o .inv .2, omega arith)
+    let t = now (start .args .table) in
+    let some : 0 < start .args .last = ⊎-elim
+    (λ (h : start .args .last ≤ 0). let e : start .args .last ≡ 0 = omega arith in absurd (omega (arith, ap (firstIn t) e)))
+    (λ (h : 0 < start .args .last). h) (le-or-lt (start .args .last) 0) in
+    (some, omega arith, start .pre .1, c .if1 .left)
 
 returns-2 : tie.Need-returns-2 Inv-loop μ-loop
 returns-2 c =
@@ -55,7 +40,9 @@ file-of-spec =
     μ-loop
     (λ c. search needs)
     (λ c. search needs)
-    returns
+    (λ c. search needs)
+    (λ c. search needs)
+    (λ c. (omega arith, c .if1 .taken, c .before .before .pre .2))
     loop-holds
     (λ c. search needs)
     (λ c. search needs)
@@ -63,7 +50,9 @@ file-of-spec =
     (λ c. search needs)
     (λ c. search needs)
     (λ c. search needs)
-    loop-again
     (λ c. search needs)
-    loop-again-2
+    (λ c. search needs)
+    (λ c. (omega arith, omega arith, c .if2 .taken, c .before .before .before .loop .inv .3))
+    (λ c. search needs)
+    (λ c. (omega arith, omega arith, c .before .before .before .loop .inv .2, c .if2 .left))
     returns-2)

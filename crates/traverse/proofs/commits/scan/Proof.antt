@@ -1,10 +1,13 @@
--- `traverse::commits::scan` meets its contract.
+-- `traverse::commits::scan` meets its contract. The invariant, `Scanning`: no commit before c is refused, and the four statistics are those of the commits
+-- before c. Each turn tries commit c and adds what it has (`scan-next`). The measure is how many commits are left.
 use Prim.Native.Nat.{_-_, _<_}
 use mathlib.Core.Path.{refl}
 use mathlib.Core.Logic.{⊎-elim}
 use native.Mathlib.Omega.{arith}
 use denote.Ref.{now}
-use Rattle.traverse.proofs.Scanning.{Scanning, scan-begins, scan-stops, scan-small, scan-next, scan-ends}
+use Rattle.tries.specs.Tries.{Parts, Told}
+use Rattle.traverse.specs.Traversal.{commitRule, parentsIn, genIn}
+use Rattle.traverse.proofs.Scanning.{tried-is, Scanning, scan-begins, scan-stops, scan-small, scan-next, scan-ends}
 use borrow.Author.Needs.{needs}
 use Rattle.traverse.proofs.commits.scan.Statement.{statement}
 use Rattle.traverse.proofs.commits.scan.Tie as tie
@@ -16,68 +19,69 @@ Inv-loop fan ids rows edge there w n counts₀ highest₀ lowest₀ most₀ c₀
 abbrev μ-loop : tie.MeasureT-loop
 μ-loop fan ids rows edge there w n counts₀ highest₀ lowest₀ most₀ c₀ counts highest lowest most c = n - c
 
+-- the parts, at a turn of the loop
+abbrev parts : tie.In-loop Inv-loop μ-loop → Parts
+parts t =
+    let a = t .before .before .before .before .before .before .args in
+    record { width = a .w; fan = now (a .fan); ids = now (a .ids); rows = now (a .rows); edge = now (a .edge); there = a .there }
+
+-- how commit c went
+tried : (t : tie.After-attempt Inv-loop μ-loop)
+    → (let turn = t .before .before in let q = parts turn in let i = turn .before .loop .c in
+    Told (commitRule q i) (parentsIn q i) (genIn q i) (t .attempt .result))
+tried t =
+    let turn = t .before .before in
+    let start = turn .before .before .before .before .before .before in
+    tried-is _ (start .pre) (turn .loop-test .taken) (t .before .row-in .ensures .is) (t .attempt .ensures)
+
 loop-holds : tie.Need-loop-holds Inv-loop μ-loop
 loop-holds c =
-    let start = c .before .before .before .before in
-    scan-begins (record {
-      width = start .args .w;
-      fan = now (start .args .fan);
-      ids = now (start .args .ids);
-      rows = now (start .args .rows);
-      edge = now (start .args .edge);
-      there = start .args .there;
-    }) _
-
-attempt-requires : tie.Need-attempt-requires Inv-loop μ-loop
-attempt-requires c κs =
-    let start = c .before .before .before .before .before .before in
-    (start .pre, c .loop-test .taken)
+    let a = c .before .before .before .before .args in
+    scan-begins (record { width = a .w; fan = now (a .fan); ids = now (a .ids); rows = now (a .rows); edge = now (a .edge); there = a .there }) _
 
 returns : tie.Need-returns Inv-loop μ-loop
 returns c =
-    let at-loop-test = c .before .before .before in
-    let start = at-loop-test .before .before .before .before .before .before in
-    scan-stops (at-loop-test .before .loop .inv) (at-loop-test .loop-test .taken) (c .before .before .attempt .ensures) _
-    (c .if1 .taken) refl refl
+    let went = c .before .before in
+    let turn = went .before .before in
+    scan-stops (turn .before .loop .inv) (turn .loop-test .taken) (tried went) _ (c .if1 .taken) refl refl
 
 add-counts : tie.Need-add-counts Inv-loop μ-loop
 add-counts c =
-    let at-attempt = c .before .before .before in
-    let start = at-attempt .before .before .before .before .before .before .before in
-    let o = at-attempt .before .before .loop in
-    let z = scan-small
-    (o .inv) (at-attempt .before .loop-test .taken) (at-attempt .attempt .ensures) (c .before .if1 .left)
+    let went = c .before .before .before in
+    let turn = went .before .before in
+    let start = turn .before .before .before .before .before .before in
+    let small = scan-small (turn .before .loop .inv) (turn .loop-test .taken) (tried went) (c .before .if1 .left)
     (c .key .ensures .0) (c .key .ensures .1) in
-    let l : o .c < start .args .n = at-attempt .before .loop-test .taken in
-    omega (arith, z, start .fits)
+    let l : turn .before .loop .c < start .args .n = turn .loop-test .taken in
+    omega (arith, small, start .fits)
+
+-- a turn's end
+left : (t : tie.In-loop Inv-loop μ-loop) → (let start = t .before .before .before .before .before .before in t .before .loop .c < start .args .n)
+left t = t .loop-test .taken
 
 add-c : tie.Need-add-c Inv-loop μ-loop
 add-c c =
-    let at-loop-test = c .before .before .before .before .before .before .before .before .before in
-    let start = at-loop-test .before .before .before .before .before .before in
-    let l : at-loop-test .before .loop .c < start .args .n = at-loop-test .loop-test .taken in omega (arith, start .fits)
+    let turn = c .before .before .before .before .before .before .before .before .before .before in
+    let start = turn .before .before .before .before .before .before in
+    omega (arith, left turn, start .fits)
 
 loop-less : tie.Need-loop-less Inv-loop μ-loop
 loop-less c =
-    let at-loop-test = c .before .before .before .before .before .before .before .before .before in
-    let start = at-loop-test .before .before .before .before .before .before in
-    let l : at-loop-test .before .loop .c < start .args .n = at-loop-test .loop-test .taken in omega arith
+    let went = c .before .before .before .before .before .before .before .before in
+    omega (arith, left (went .before .before))
 
 loop-again : tie.Need-loop-again Inv-loop μ-loop
 loop-again c =
-    let at-if2 = c .before .before in
-    let at-key = at-if2 .before .before .before in
-    let at-attempt = at-key .before .before .before in
-    let start = at-attempt .before .before .before .before .before .before .before in
-    scan-next (at-attempt .before .before .loop .inv) (at-attempt .before .loop-test .taken) (at-attempt .attempt .ensures)
-    (at-key .before .if1 .left) (at-key .key .ensures .0) (at-key .key .ensures .1)
-    (⊎-elim (λ w. omega arith) (λ w. omega arith) (at-if2 .if2 .came)) (at-if2 .before .before .lower .ensures)
-    (⊎-elim (λ w. omega arith) (λ w. omega arith) (c .if3 .came))
+    let high = c .before .before in
+    let counted = high .before .before .before in
+    let went = counted .before .before .before in
+    let turn = went .before .before in
+    scan-next (turn .before .loop .inv) (turn .loop-test .taken) (tried went) (counted .before .if1 .left)
+    (counted .key .ensures .0) (counted .key .ensures .1) (⊎-elim (λ w. omega arith) (λ w. omega arith) (high .if2 .came))
+    (high .before .before .lower .ensures) (⊎-elim (λ w. omega arith) (λ w. omega arith) (c .if3 .came))
 
 returns-2 : tie.Need-returns-2 Inv-loop μ-loop
-returns-2 c =
-    let start = c .before .before .before .before .before .before in
-    scan-ends (c .before .loop .inv) (c .loop-test .left) _ refl refl refl refl refl refl
+returns-2 c = scan-ends (c .before .loop .inv) (c .loop-test .left) _ refl refl refl refl refl refl
 
 pub scan-spec : {M : Type 1} → statement M
 scan-spec =
@@ -86,7 +90,8 @@ scan-spec =
     Inv-loop
     μ-loop
     loop-holds
-    attempt-requires
+    (λ c κs. search needs)
+    (λ c κs. search needs)
     returns
     (λ c κs. search needs)
     (λ c. search needs)

@@ -1,11 +1,11 @@
--- `traverse::commits::key` meets its contract.
+-- `tries::key` meets its contract.
 use native.Mathlib.Omega.{arith}
 use borrow.Author.Tests.{le-leb, lt-leb}
 use Rattle.words.proofs.Rows.{hit, miss}
 use Rattle.ancestry.specs.Counts.{keyOf}
 use mathlib.Core.Path.{refl}
-use Rattle.traverse.proofs.commits.key.Statement.{statement}
-use Rattle.traverse.proofs.commits.key.Tie as tie
+use Rattle.tries.proofs.key.Statement.{statement}
+use Rattle.tries.proofs.key.Tie as tie
 
 returns : tie.Need-returns
 unfolding keyOf
