@@ -11,7 +11,4 @@ returns-2 : tie.Need-returns-2
 returns-2 c = asking-none _ (c .if1 .left)
 
 pub asked-spec : {M : Type 1} → statement M
-asked-spec = tie.close (tie.spec
-    (λ c κs. search needs)
-    returns
-    returns-2)
+asked-spec = tie.close (tie.spec (search needs) returns returns-2)

@@ -8,7 +8,4 @@ returns : tie.Need-returns
 returns c = records-in _ _ _ _ _ (c .before .before .before .pre .base) (c .part .ensures)
 
 pub base-spec : {M : Type 1} → statement M
-base-spec = tie.close (tie.spec
-    (λ c. search needs)
-    (λ c κs. search needs)
-    returns)
+base-spec = tie.close (tie.spec (search needs) (search needs) returns)

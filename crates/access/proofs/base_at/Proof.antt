@@ -34,13 +34,13 @@ pub base-at-spec : {M : Type 1} → statement M
 base-at-spec =
     tie.close
     (tie.spec
-    (λ c. search needs)
-    (λ c κs. search needs)
-    (λ c. search needs)
-    (λ c. search needs)
-    (λ c. search needs)
+    (search needs)
+    (search needs)
+    (search needs)
+    (search needs)
+    (search needs)
     returns
     (λ c κs. fine c .fits)
     mul-part
-    (λ c κs. search needs)
+    (search needs)
     returns-2)

@@ -66,13 +66,13 @@ halve-spec =
     (λ c. omega arith)
     (λ c. omega arith)
     mul-compare
-    (λ c κs. search needs)
-    (λ c. search needs)
+    (search needs)
+    (search needs)
     (λ c. omega arith)
     loop-again
-    (λ c. search needs)
+    (search needs)
     returns
-    (λ c. search needs)
+    (search needs)
     (λ c. omega arith)
     (λ c. omega arith)
     loop-again-2

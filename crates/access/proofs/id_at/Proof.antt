@@ -34,13 +34,13 @@ pub id-at-spec : {M : Type 1} → statement M
 id-at-spec =
     tie.close
     (tie.spec
-    (λ c κs. search needs)
-    (λ c. search needs)
-    (λ c. search needs)
-    (λ c. search needs)
+    (search needs)
+    (search needs)
+    (search needs)
+    (search needs)
     returns
     (λ c κs. fine c .fits)
-    (λ c. search needs)
+    (search needs)
     mul-part
-    (λ c κs. search needs)
+    (search needs)
     returns-2)

@@ -86,19 +86,19 @@ pub lookup-spec : {M : Type 1} → statement M
 lookup-spec =
     tie.close
     (tie.spec
-    (λ c κs. search needs)
-    (λ c κs. search needs)
+    (search needs)
+    (search needs)
     returns
-    (λ c κs. search needs)
+    (search needs)
     returns-2
     oidf-requires
     shared-slice-read-wide
-    (λ c κs. search needs)
-    (λ c. search needs)
-    (λ c κs. search needs)
-    (λ c κs. search needs)
+    (search needs)
+    (search needs)
+    (search needs)
+    (search needs)
     returns-3
     oidl-requires
-    (λ c κs. search needs)
+    (search needs)
     halve-requires
     returns-4)

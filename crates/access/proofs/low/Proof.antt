@@ -12,9 +12,4 @@ returns-2 : tie.Need-returns-2
 returns-2 c = c .be32 .ensures ∙ lower-is _ _ (c .before .if1 .left)
 
 pub low-spec : {M : Type 1} → statement M
-low-spec = tie.close (tie.spec
-    returns
-    (λ c. search needs)
-    (λ c. search needs)
-    (λ c κs. search needs)
-    returns-2)
+low-spec = tie.close (tie.spec returns (search needs) (search needs) (search needs) returns-2)

@@ -8,6 +8,4 @@ returns : tie.Need-returns
 returns c = records-in _ _ _ 256 4 (c .before .before .pre .fan) (c .part .ensures)
 
 pub oidf-spec : {M : Type 1} → statement M
-oidf-spec = tie.close (tie.spec
-    (λ c κs. search needs)
-    returns)
+oidf-spec = tie.close (tie.spec (search needs) returns)

@@ -8,7 +8,4 @@ returns : tie.Need-returns
 returns c = records-in _ _ _ _ _ (c .before .before .before .pre .ids) (c .part .ensures)
 
 pub oidl-spec : {M : Type 1} → statement M
-oidl-spec = tie.close (tie.spec
-    (λ c. search needs)
-    (λ c κs. search needs)
-    returns)
+oidl-spec = tie.close (tie.spec (search needs) (search needs) returns)

@@ -8,7 +8,4 @@ returns : tie.Need-returns
 returns c = answers (rw (c .before .ask .ensures) at (c .asked .ensures))
 
 pub which-spec : {M : Type 1} → statement M
-which-spec = tie.close (tie.spec
-    (λ c κs. search needs)
-    (λ c κs. search needs)
-    returns)
+which-spec = tie.close (tie.spec (search needs) (search needs) returns)

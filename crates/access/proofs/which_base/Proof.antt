@@ -8,8 +8,4 @@ returns : tie.Need-returns
 returns c = answers (rw (c .before .ask .ensures) at (c .asked .ensures))
 
 pub which-base-spec : {M : Type 1} → statement M
-which-base-spec = tie.close (tie.spec
-    (λ c. search needs)
-    (λ c κs. search needs)
-    (λ c κs. search needs)
-    returns)
+which-base-spec = tie.close (tie.spec (search needs) (search needs) (search needs) returns)

@@ -1,4 +1,4 @@
--- `audit::accepted` meets its contract.
+-- `audit::accepted` meets its contract: the length is what `measure` says.
 use borrow.Author.Needs.{needs}
 use Rattle.audit.proofs.accepted.Statement.{statement}
 use Rattle.audit.proofs.accepted.Tie as tie
@@ -7,4 +7,4 @@ returns : tie.Need-returns
 returns c = rw (c .before .measure .ensures)
 
 pub accepted-spec : {M : Type 1} → statement M
-accepted-spec = tie.close (tie.spec (λ c κs. search needs) (λ c. search needs) returns)
+accepted-spec = tie.close (tie.spec (search needs) (search needs) returns)

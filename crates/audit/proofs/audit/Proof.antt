@@ -48,12 +48,12 @@ pub audit-spec : {M : Type 1} → statement M
 audit-spec =
     tie.close
     (tie.spec
-    (λ c κs. search needs)
-    (λ c κs. search needs)
+    (search needs)
+    (search needs)
     returns
     (λ c. omega (arith, listed c .few))
     (λ c κs. (refl, listed c))
-    (λ c κs. search needs)
+    (search needs)
     returns-2
     (λ c. sym (right (c .before .before) .long))
     (λ c κs. (right (c .before .before), (refl, omega arith, no-files 32 _ _)))

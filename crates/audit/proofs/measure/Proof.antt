@@ -1,4 +1,4 @@
--- `audit::measure` meets its contract.
+-- `audit::measure` meets its contract: each return is the case of the highest generation that its tests name.
 use borrow.Author.Tests.{eq-eqb, ne-eqb}
 use Rattle.ancestry.specs.Graph.{lengthOf, cap}
 use Rattle.audit.specs.Rules.{lengthBy}
@@ -19,4 +19,4 @@ unfolding lengthOf lengthBy
 returns-3 c = rw (ne-eqb _ cap (c .before .if1 .left))
 
 pub measure-spec : {M : Type 1} → statement M
-measure-spec = tie.close (tie.spec returns returns-2 (λ c. search needs) returns-3)
+measure-spec = tie.close (tie.spec returns returns-2 (search needs) returns-3)

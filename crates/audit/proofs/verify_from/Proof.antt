@@ -108,7 +108,10 @@ returns-3 c =
 
 -- the turn, from its end
 abbrev ended : tie.After-next Inv-loop μ-loop → tie.In-loop Inv-loop μ-loop
-ended c = let file = c .before .before .before .before .before .before .before .before in file .before .before .before .before .before .before
+ended c =
+    let judged = c .before .before .before .before in
+    let file = judged .before .before .before .before in
+    file .before .before .before .before .before .before
 
 loop-again : tie.Need-loop-again Inv-loop μ-loop
 loop-again c =
@@ -146,7 +149,7 @@ verify-from-spec =
     Inv-loop
     μ-loop
     (λ c. let start = c .before .before .before in filing-begins _ _ _ _ _ (start .pre .1 .1) _ (start .pre .1 .2))
-    (λ c. search needs)
+    (search needs)
     (λ c. omega (arith, row c))
     (λ c. omega (arith, row c))
     (λ c. omega (arith, row (c .before)))
@@ -155,24 +158,24 @@ verify-from-spec =
     (λ c. omega (arith, row (c .before)))
     (λ c. omega (arith, row (c .before .before)))
     (λ c. row (c .before .before) .1)
-    (λ c κs. search needs)
-    (λ c κs. search needs)
-    (λ c. search needs)
-    (λ c κs. search needs)
-    (λ c κs. search needs)
+    (search needs)
+    (search needs)
+    (search needs)
+    (search needs)
+    (search needs)
     returns
-    (λ c. search needs)
+    (search needs)
     head-requires
-    (λ c. search needs)
-    (λ c κs. search needs)
-    (λ c κs. search needs)
-    (λ c κs. search needs)
+    (search needs)
+    (search needs)
+    (search needs)
+    (search needs)
     returns-2
     scan-requires
-    (λ c. search needs)
-    (λ c κs. search needs)
-    (λ c κs. search needs)
-    (λ c κs. search needs)
+    (search needs)
+    (search needs)
+    (search needs)
+    (search needs)
     returns-3
     (λ c. omega (arith, row (ended c)))
     (λ c. omega (arith, ended c .loop-test .taken))

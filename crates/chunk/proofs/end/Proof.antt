@@ -7,7 +7,4 @@ returns : tie.Need-returns
 returns c = rw (c .before .count .ensures .0) at (c .offset .ensures)
 
 pub end-spec : {M : Type 1} → statement M
-end-spec = tie.close (tie.spec
-    (λ c κs. search needs)
-    (λ c κs. search needs)
-    returns)
+end-spec = tie.close (tie.spec (search needs) (search needs) returns)

@@ -18,13 +18,4 @@ returns-2 c =
     (chunk-at _ _ (found .before .before .count .ensures .0) (found .before .seek .ensures) (found .if1 .left)))
 
 pub find-spec : {M : Type 1} → statement M
-find-spec =
-    tie.close
-    (tie.spec
-    (λ c κs. search needs)
-    (λ c κs. search needs)
-    returns
-    (λ c κs. search needs)
-    (λ c. search needs)
-    (λ c κs. search needs)
-    returns-2)
+find-spec = tie.close (tie.spec (search needs) (search needs) returns (search needs) (search needs) (search needs) returns-2)

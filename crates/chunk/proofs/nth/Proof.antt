@@ -23,15 +23,4 @@ returns-3 c =
     (nth-at _ _ (sound .before .before .check .ensures) (sound .if1 .left) (there .before .count .ensures .0) (there .if2 .left)))
 
 pub nth-spec : {M : Type 1} → statement M
-nth-spec =
-    tie.close
-    (tie.spec
-    (λ c κs. search needs)
-    returns
-    (λ c κs. search needs)
-    returns-2
-    (λ c κs. search needs)
-    (λ c κs. search needs)
-    (λ c. search needs)
-    (λ c κs. search needs)
-    returns-3)
+nth-spec = tie.close (tie.spec (search needs) returns (search needs) returns-2 (search needs) (search needs) (search needs) (search needs) returns-3)

@@ -10,8 +10,4 @@ returns c =
     records-in _ _ _ _ _ (start .pre .rows) (c .part .ensures)
 
 pub cdat-spec : {M : Type 1} → statement M
-cdat-spec = tie.close (tie.spec
-    (λ c. search needs)
-    (λ c. search needs)
-    (λ c κs. search needs)
-    returns)
+cdat-spec = tie.close (tie.spec (search needs) (search needs) (search needs) returns)

@@ -19,9 +19,4 @@ returns-2 c =
     answers (ap Is (c .row-at .ensures) ∙ commit-plain (answered _ _ _ _ (c .before .before .ask .ensures) (c .before .if1 .left)))
 
 pub commit-at-spec : {M : Type 1} → statement M
-commit-at-spec = tie.close (tie.spec
-    (λ c κs. search needs)
-    (λ c κs. search needs)
-    returns
-    row-at-requires
-    returns-2)
+commit-at-spec = tie.close (tie.spec (search needs) (search needs) returns row-at-requires returns-2)

@@ -39,10 +39,10 @@ pub commit-in-spec : {M : Type 1} → statement M
 commit-in-spec =
     tie.close
     (tie.spec
-    (λ c κs. search needs)
-    (λ c κs. search needs)
+    (search needs)
+    (search needs)
     returns
-    (λ c. search needs)
+    (search needs)
     add-fields
     mul-fields
     add-fields-2

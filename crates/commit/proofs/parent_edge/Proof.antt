@@ -13,7 +13,4 @@ returns-3 : tie.Need-returns-3
 returns-3 c = edge-position _ (c .before .if1 .left) (c .if2 .left)
 
 pub parent-edge-spec : {M : Type 1} → statement M
-parent-edge-spec = tie.close (tie.spec
-    returns
-    returns-2
-    returns-3)
+parent-edge-spec = tie.close (tie.spec returns returns-2 returns-3)

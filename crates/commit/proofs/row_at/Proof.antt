@@ -34,11 +34,4 @@ returns c =
     (c .before .cdat .ensures .bytes)
 
 pub row-at-spec : {M : Type 1} → statement M
-row-at-spec =
-    tie.close (tie.spec
-    (λ c κs. search needs)
-    (λ c. search needs)
-    mul-fields
-    add-fields-2
-    fields-requires
-    returns)
+row-at-spec = tie.close (tie.spec (search needs) (search needs) mul-fields add-fields-2 fields-requires returns)

@@ -35,11 +35,4 @@ unfolding rowRule
 returns-3 c = search rows depth 12
 
 pub row-rule-spec : {M : Type 1} → statement M
-row-rule-spec = tie.close (tie.spec
-    (λ c κs. search needs)
-    returns
-    (λ c. omega (arith, small c))
-    mul-if2
-    add-if2
-    returns-2
-    returns-3)
+row-rule-spec = tie.close (tie.spec (search needs) returns (λ c. omega (arith, small c)) mul-if2 add-if2 returns-2 returns-3)

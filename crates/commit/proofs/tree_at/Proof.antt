@@ -37,14 +37,14 @@ pub tree-at-spec : {M : Type 1} → statement M
 tree-at-spec =
     tie.close
     (tie.spec
-    (λ c κs. search needs)
-    (λ c. search needs)
-    (λ c. search needs)
-    (λ c. search needs)
+    (search needs)
+    (search needs)
+    (search needs)
+    (search needs)
     returns
     cdat-requires
-    (λ c. search needs)
+    (search needs)
     add-part
     mul-part
-    (λ c κs. search needs)
+    (search needs)
     returns-2)

@@ -14,8 +14,4 @@ returns-3 : tie.Need-returns-3
 returns-3 c = ask-fine _ _ _ _ (c .before .before .fit .ensures) (c .before .if1 .left) (c .if2 .left)
 
 pub ask-spec : {M : Type 1} → statement M
-ask-spec = tie.close (tie.spec
-    (λ c κs. search needs)
-    returns
-    returns-2
-    returns-3)
+ask-spec = tie.close (tie.spec (search needs) returns returns-2 returns-3)

@@ -85,19 +85,19 @@ pub fit-spec : {M : Type 1} → statement M
 fit-spec =
     tie.close
     (tie.spec
-    (λ c. search needs)
-    (λ c. search needs)
-    (λ c κs. search needs)
+    (search needs)
+    (search needs)
+    (search needs)
     returns
-    (λ c κs. search needs)
+    (search needs)
     returns-2
-    (λ c κs. search needs)
+    (search needs)
     returns-3
     add-room
-    (λ c κs. search needs)
+    (search needs)
     returns-4
-    (λ c κs. search needs)
+    (search needs)
     returns-5
-    (λ c κs. search needs)
+    (search needs)
     returns-6
     returns-7)

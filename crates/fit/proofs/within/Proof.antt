@@ -8,8 +8,4 @@ returns : tie.Need-returns
 returns c = c .room .ensures ∙ rw (c .before .size .ensures, c .before .before .start .ensures)
 
 pub within-spec : {M : Type 1} → statement M
-within-spec = tie.close (tie.spec
-    (λ c κs. search needs)
-    (λ c κs. search needs)
-    (λ c κs. search needs)
-    returns)
+within-spec = tie.close (tie.spec (search needs) (search needs) (search needs) returns)

@@ -12,6 +12,4 @@ returns : tie.Need-returns
 returns c = (refl, square _ _ (omega arith) (omega arith))
 
 pub at-spec : {M : Type 1} → statement M
-at-spec = tie.close (tie.spec
-    mul-result
-    returns)
+at-spec = tie.close (tie.spec mul-result returns)

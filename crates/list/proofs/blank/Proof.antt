@@ -8,7 +8,4 @@ returns : tie.Need-returns
 returns c = rw (claim-number _ _ (c .before .before .before .pre) (c .before .claim-at .ensures)) at (c .zero .ensures)
 
 pub blank-spec : {M : Type 1} → statement M
-blank-spec = tie.close (tie.spec
-    (λ c κs. search needs)
-    (λ c κs. search needs)
-    returns)
+blank-spec = tie.close (tie.spec (search needs) (search needs) returns)

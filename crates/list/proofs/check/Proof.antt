@@ -45,16 +45,16 @@ pub check-spec : {M : Type 1} → statement M
 check-spec =
     tie.close
     (tie.spec
-    (λ c κs. search needs)
-    (λ c κs. search needs)
+    (search needs)
+    (search needs)
     returns
     cast-c
-    (λ c κs. search needs)
-    (λ c. search needs)
-    (λ c κs. search needs)
+    (search needs)
+    (search needs)
+    (search needs)
     returns-2
     total-requires
-    (λ c κs. search needs)
+    (search needs)
     returns-3
-    (λ c κs. search needs)
+    (search needs)
     returns-4)

@@ -7,8 +7,4 @@ returns : tie.Need-returns
 returns c = rw (c .before .at .ensures .0) at (c .part .ensures)
 
 pub claim-at-spec : {M : Type 1} → statement M
-claim-at-spec = tie.close (tie.spec
-    (λ c κs. search needs)
-    (λ c. search needs)
-    (λ c κs. search needs)
-    returns)
+claim-at-spec = tie.close (tie.spec (search needs) (search needs) (search needs) returns)

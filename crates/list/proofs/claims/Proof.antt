@@ -7,4 +7,4 @@ returns : tie.Need-returns
 returns c = rw (← c .before .at .ensures .0) (c .same .ensures)
 
 pub claims-spec : {M : Type 1} → statement M
-claims-spec = tie.close (tie.spec (λ c κs. search needs) (λ c. search needs) (λ c κs. search needs) returns)
+claims-spec = tie.close (tie.spec (search needs) (search needs) (search needs) returns)

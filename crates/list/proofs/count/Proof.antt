@@ -8,7 +8,4 @@ returns : tie.Need-returns
 returns c = rw (c .if1 .taken, div-zero)
 
 pub count-spec : {M : Type 1} → statement M
-count-spec = tie.close (tie.spec
-    returns
-    (λ c. search needs)
-    (λ c. search needs))
+count-spec = tie.close (tie.spec returns (search needs) (search needs))

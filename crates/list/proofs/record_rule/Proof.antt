@@ -25,13 +25,4 @@ returns-4 c =
     (c .before .before .if2 .left) (c .before .spare-at .ensures) (c .if3 .left)
 
 pub record-rule-spec : {M : Type 1} → statement M
-record-rule-spec =
-    tie.close
-    (tie.spec
-    (λ c κs. search needs)
-    returns
-    (λ c κs. search needs)
-    returns-2
-    (λ c κs. search needs)
-    returns-3
-    returns-4)
+record-rule-spec = tie.close (tie.spec (search needs) returns (search needs) returns-2 (search needs) returns-3 returns-4)

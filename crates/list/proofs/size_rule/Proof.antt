@@ -11,8 +11,8 @@ size-rule-spec =
     tie.close (tie.spec
     (λ c. search rows depth 20)
     (λ c. search rows depth 20)
-    (λ c. search needs)
+    (search needs)
     (λ c. search (rows, c .if3 .taken) depth 20)
-    (λ c. search needs)
+    (search needs)
     (λ c. search rows depth 20)
     (λ c. search rows depth 20))

@@ -13,8 +13,4 @@ returns-2 : tie.Need-returns-2
 returns-2 c = ap not (c .blank .ensures) ∙ rw (ne-via _ _ _ (c .before .before .kind-at .ensures) (c .before .if1 .left))
 
 pub stray-spec : {M : Type 1} → statement M
-stray-spec = tie.close (tie.spec
-    (λ c κs. search needs)
-    returns
-    (λ c κs. search needs)
-    returns-2)
+stray-spec = tie.close (tie.spec (search needs) returns (search needs) returns-2)

@@ -44,8 +44,8 @@ total-spec =
     Inv-loop
     μ-loop
     loop-holds
-    (λ c κs. search needs)
-    (λ c. search needs)
+    (search needs)
+    (search needs)
     add-sum
     (λ c. omega arith)
     (λ c. omega arith)

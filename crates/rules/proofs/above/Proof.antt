@@ -1,4 +1,4 @@
--- `rules::above` meets its contract.
+-- `rules::above` meets its contract: each answer of `compare` says whether the id before is below (`told-above`).
 use Rattle.rules.proofs.Entries.{told-above}
 use borrow.Author.Needs.{needs}
 use Rattle.rules.proofs.above.Statement.{statement}
@@ -14,13 +14,4 @@ returns-3 : tie.Need-returns-3
 returns-3 c = told-above _ _ (c .before .before .compare .ensures .is) (c .enum-told3 .given .1)
 
 pub above-spec : {M : Type 1} → statement M
-above-spec =
-    tie.close
-    (tie.spec
-    (λ c κs. search needs)
-    (λ c. search needs)
-    (λ c. search needs)
-    (λ c. search needs)
-    returns
-    returns-2
-    returns-3)
+above-spec = tie.close (tie.spec (search needs) (search needs) (search needs) (search needs) returns returns-2 returns-3)

@@ -1,4 +1,4 @@
--- `rules::digest` meets its contract.
+-- `rules::digest` meets its contract: the bytes before the trailer are cut, and their SHA-1 is taken.
 use native.Mathlib.Omega.{arith}
 use lib.ListN.{length-take}
 use borrow.Author.Needs.{needs}

@@ -1,4 +1,4 @@
--- `rules::early` meets its contract.
+-- `rules::early` meets its contract: the bucket starts at 0, or where the fan entry before it says.
 use mathlib.Core.Path.{sym, ap, _∙_}
 use native.Mathlib.Omega.{arith}
 use lib.Dec.{ltb}
@@ -20,9 +20,4 @@ returns-2 : tie.Need-returns-2
 returns-2 c = ap (ltb _) (c .be32 .ensures ∙ lower-is _ _ (c .before .if1 .left))
 
 pub early-spec : {M : Type 1} → statement M
-early-spec = tie.close (tie.spec
-    returns
-    (λ c. search needs)
-    (λ c. search needs)
-    (λ c κs. search needs)
-    returns-2)
+early-spec = tie.close (tie.spec returns (search needs) (search needs) (search needs) returns-2)

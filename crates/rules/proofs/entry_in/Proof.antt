@@ -64,22 +64,22 @@ pub entry-in-spec : {M : Type 1} → statement M
 entry-in-spec =
     tie.close
     (tie.spec
-    (λ c κs. search needs)
+    (search needs)
     returns
     returns-2
     (λ c. omega (arith, small c))
     (λ c. omega (arith, small c))
     returns-3
-    (λ c. search needs)
-    (λ c. search needs)
-    (λ c. search needs)
-    (λ c. search needs)
+    (search needs)
+    (search needs)
+    (search needs)
+    (search needs)
     returns-4
     (λ c κs. (wide (c .before .before .before), c .before .if3 .left))
     returns-5
-    (λ c. search needs)
+    (search needs)
     (λ c. omega (arith, small (c .before .before .before .before .before)))
-    (λ c κs. search needs)
+    (search needs)
     returns-6
     (λ c κs. let rows = c .before .before .before .before .before in (wide (rows .before .before .before), rows .if4 .left))
     returns-7)

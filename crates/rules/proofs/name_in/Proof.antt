@@ -44,16 +44,4 @@ unfolding nameRule trailing
 returns-7 c = let kind = c .before in listed (kind .before .before .before .before) (search (rows, c .if5 .left, kind .if4 .left) depth 30)
 
 pub name-in-spec : {M : Type 1} → statement M
-name-in-spec =
-    tie.close
-    (tie.spec
-    (λ c κs. search needs)
-    returns
-    returns-2
-    returns-3
-    (λ c κs. search needs)
-    returns-4
-    (λ c κs. search needs)
-    returns-5
-    returns-6
-    returns-7)
+name-in-spec = tie.close (tie.spec (search needs) returns returns-2 returns-3 (search needs) returns-4 (search needs) returns-5 returns-6 returns-7)

@@ -1,4 +1,4 @@
--- `rules::other` meets its contract.
+-- `rules::other` meets its contract: the trailer is held against the claim of the record (`name-said`).
 use mathlib.Core.Bool.{not}
 use mathlib.Core.Path.{ap}
 use Rattle.rules.proofs.Trailers.{name-said}
@@ -12,7 +12,4 @@ returns c =
     ap not (name-said _ _ _ (start .pre .0) (start .pre .1) (c .before .trailer .ensures) (c .claims .ensures))
 
 pub other-spec : {M : Type 1} → statement M
-other-spec = tie.close (tie.spec
-    (λ c κs. search needs)
-    (λ c κs. search needs)
-    returns)
+other-spec = tie.close (tie.spec (search needs) (search needs) returns)

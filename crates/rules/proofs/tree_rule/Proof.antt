@@ -1,4 +1,4 @@
--- `rules::tree_rule` meets its contract.
+-- `rules::tree_rule` meets its contract: 67 exactly if the tree's bytes make 0 (`zero-said`).
 use mathlib.Core.Path.{refl, sym, _∙_}
 use native.Mathlib.Omega.{arith}
 use Rattle.words.proofs.Rows.{hit, miss}
@@ -18,11 +18,4 @@ returns-2 c =
     miss 67 _ 0 0 (sym (zero-said _ _ _ _ (omega arith) (c .before .before .part .ensures) (c .before .zero .ensures)) ∙ c .if1 .left) refl
 
 pub tree-rule-spec : {M : Type 1} → statement M
-tree-rule-spec =
-    tie.close (tie.spec
-    (λ c. search needs)
-    (λ c. search needs)
-    (λ c κs. search needs)
-    (λ c κs. search needs)
-    returns
-    returns-2)
+tree-rule-spec = tie.close (tie.spec (search needs) (search needs) (search needs) (search needs) returns returns-2)

@@ -23,14 +23,4 @@ returns-2 c =
     part-fine _ _ _ _ _ (zero-of (fine .before .fit .ensures) (fine .if1 .left)) (run-in _ _ _ _ (omega arith) (c .part .ensures))
 
 pub checksum-spec : {M : Type 1} → statement M
-checksum-spec =
-    tie.close
-    (tie.spec
-    (λ c κs. search needs)
-    (λ c. search needs)
-    (λ c. search needs)
-    (λ c. search needs)
-    returns
-    sub-part
-    (λ c κs. search needs)
-    returns-2)
+checksum-spec = tie.close (tie.spec (search needs) (search needs) (search needs) (search needs) returns sub-part (search needs) returns-2)

@@ -27,6 +27,4 @@ returns-3 c =
     ∙ ap asking (checksum-sum _ _ (fine .before .fit .ensures) (fine .if1 .left) (c .before .sum-in .ensures)))
 
 pub verify-checksum-spec : {M : Type 1} → statement M
-verify-checksum-spec =
-    tie.close
-    (tie.spec (λ c κs. search needs) (λ c κs. search needs) returns (λ c κs. search needs) (λ c κs. search needs) returns-2 returns-3)
+verify-checksum-spec = tie.close (tie.spec (search needs) (search needs) returns (search needs) (search needs) returns-2 returns-3)

@@ -1,4 +1,4 @@
--- `traverse::one` meets its contract.
+-- `traverse::one` meets its contract: 1, then 32 by the record's length, then what the list's own check says.
 use mathlib.Core.Path.{_∙_}
 use Rattle.traverse.proofs.Traversing.{one-large, one-size, one-list}
 use borrow.Author.Needs.{needs}
@@ -15,4 +15,4 @@ returns-3 : tie.Need-returns-3
 returns-3 c = c .check .ensures ∙ one-list 32 _ _ (c .before .before .if1 .left) (c .before .if2 .left)
 
 pub one-spec : {M : Type 1} → statement M
-one-spec = tie.close (tie.spec (λ c κs. search needs) returns (λ c κs. search needs) returns-2 (λ c κs. search needs) returns-3)
+one-spec = tie.close (tie.spec (search needs) returns (search needs) returns-2 (search needs) returns-3)

@@ -1,4 +1,5 @@
--- `traverse::opened` meets its contract.
+-- `traverse::opened` meets its contract: stage by stage. A trailer that is wrong is refused, then a name, then the first commit that is; each stage
+-- stands on what the stages before it left (`file-sum`, `file-name`, `file-commit`, `file-fine`). The list has one record.
 use Prim.Native.Nat.{ℕ, _/_, _<_}
 use mathlib.Core.Bool.{true}
 use mathlib.Core.Path.{_≡_, ap, _∙_}
@@ -16,19 +17,19 @@ one-record e = rw e (lit< tt)
 
 returns : tie.Need-returns
 returns c =
-    let at-if1 = c .before .before in
-    let start = at-if1 .before .before .before .before in
+    let summed = c .before .before in
+    let start = summed .before .before .before .before in
     c .refused .ensures ∙ ap refusedBy (c .before .at .ensures)
-    ∙ file-sum 32 _ _ (start .pre .0) (one-record (start .pre .1)) (at-if1 .before .sum-in .ensures) (at-if1 .if1 .taken)
+    ∙ file-sum 32 _ _ (start .pre .0) (one-record (start .pre .1)) (summed .before .sum-in .ensures) (summed .if1 .taken)
 
 returns-2 : tie.Need-returns-2
 returns-2 c =
-    let at-if2 = c .before .before in
-    let at-if1 = at-if2 .before .before in
-    let start = at-if1 .before .before .before .before in
+    let named = c .before .before in
+    let summed = named .before .before in
+    let start = summed .before .before .before .before in
     c .refused2 .ensures ∙ ap refusedBy (c .before .at2 .ensures)
-    ∙ file-name 32 _ _ (start .pre .0) (one-record (start .pre .1)) (at-if1 .before .sum-in .ensures) (at-if1 .if1 .left) (at-if2 .before .name-in .ensures)
-    (at-if2 .if2 .taken)
+    ∙ file-name 32 _ _ (start .pre .0) (one-record (start .pre .1)) (summed .before .sum-in .ensures) (summed .if1 .left) (named .before .name-in .ensures)
+    (named .if2 .taken)
 
 commits-requires : tie.Need-commits-requires
 commits-requires c κs =
@@ -37,37 +38,37 @@ commits-requires c κs =
 
 returns-3 : tie.Need-returns-3
 returns-3 c =
-    let at-if3 = c .before .before .before in
-    let at-if2 = at-if3 .before .before .before in
-    let at-if1 = at-if2 .before .before in
-    let start = at-if1 .before .before .before .before in
+    let went = c .before .before .before in
+    let named = went .before .before .before in
+    let summed = named .before .before in
+    let start = summed .before .before .before .before in
     c .refused3 .ensures ∙ ap refusedBy (c .before .at3 .ensures)
-    ∙ file-commit 32 _ _ (start .pre .0) (one-record (start .pre .1)) (at-if1 .before .sum-in .ensures) (at-if1 .if1 .left) (at-if2 .before .name-in .ensures)
-    (at-if2 .if2 .left) (at-if3 .before .before .commits .ensures) (at-if3 .if3 .taken)
+    ∙ file-commit 32 _ _ (start .pre .0) (one-record (start .pre .1)) (summed .before .sum-in .ensures) (summed .if1 .left) (named .before .name-in .ensures)
+    (named .if2 .left) (went .before .before .commits .ensures) (went .if3 .taken)
 
 returns-4 : tie.Need-returns-4
 returns-4 c =
-    let at-if2 = c .before .before .before .before in
-    let at-if1 = at-if2 .before .before in
-    let start = at-if1 .before .before .before .before in
-    file-fine 32 _ _ (start .pre .0) (one-record (start .pre .1)) (at-if1 .before .sum-in .ensures) (at-if1 .if1 .left) (at-if2 .before .name-in .ensures)
-    (at-if2 .if2 .left) (c .before .before .before .commits .ensures) (c .before .if3 .left)
+    let named = c .before .before .before .before in
+    let summed = named .before .before in
+    let start = summed .before .before .before .before in
+    file-fine 32 _ _ (start .pre .0) (one-record (start .pre .1)) (summed .before .sum-in .ensures) (summed .if1 .left) (named .before .name-in .ensures)
+    (named .if2 .left) (c .before .before .before .commits .ensures) (c .before .if3 .left)
 
 pub opened-spec : {M : Type 1} → statement M
 opened-spec =
     tie.close
     (tie.spec
-    (λ c κs. search needs)
-    (λ c κs. search needs)
-    (λ c κs. search needs)
+    (search needs)
+    (search needs)
+    (search needs)
     returns
-    (λ c κs. search needs)
-    (λ c κs. search needs)
-    (λ c κs. search needs)
+    (search needs)
+    (search needs)
+    (search needs)
     returns-2
     commits-requires
-    (λ c. search needs)
-    (λ c κs. search needs)
-    (λ c κs. search needs)
+    (search needs)
+    (search needs)
+    (search needs)
     returns-3
     returns-4)

@@ -1,4 +1,4 @@
--- `traverse::traverse` meets its contract.
+-- `traverse::traverse` meets its contract: a list that is refused, a file that does not open, or what the opened file comes to.
 use mathlib.Core.Path.{sym, _∙_}
 use denote.Ref.{now}
 use Rattle.types.proofs.Saying.{answers}
@@ -20,31 +20,31 @@ opened-requires c κs =
 
 returns-2 : tie.Need-returns-2
 returns-2 c =
-    let at-r = c .before .before in
-    let at-if1 = at-r .before .before .before in
+    let shut = c .before .before in
+    let listed = shut .before .before .before in
     answers (c .refused2 .ensures
-    ∙ traversal-shut 32 _ _ (at-if1 .before .before .one .ensures) (at-if1 .if1 .left) (at-r .before .before .«open» .ensures .is)
-    (at-r .r .given .1))
+    ∙ traversal-shut 32 _ _ (listed .before .before .one .ensures) (listed .if1 .left) (shut .before .before .«open» .ensures .is)
+    (shut .r .given .1))
 
 returns-3 : tie.Need-returns-3
 returns-3 c =
-    let at-f = c .before .before in
-    let at-if1 = at-f .before .before .before in
+    let whole = c .before .before in
+    let listed = whole .before .before .before in
     answers (c .opened .ensures
-    ∙ traversal-open 32 _ _ (at-if1 .before .before .one .ensures) (at-if1 .if1 .left) (at-f .before .before .«open» .ensures .is)
-    (at-f .f .given .1))
+    ∙ traversal-open 32 _ _ (listed .before .before .one .ensures) (listed .if1 .left) (whole .before .before .«open» .ensures .is)
+    (whole .f .given .1))
 
 pub traverse-spec : {M : Type 1} → statement M
 traverse-spec =
     tie.close
     (tie.spec
-    (λ c κs. search needs)
-    (λ c κs. search needs)
+    (search needs)
+    (search needs)
     returns
-    (λ c κs. search needs)
-    (λ c. search needs)
-    (λ c κs. search needs)
-    (λ c. search needs)
+    (search needs)
+    (search needs)
+    (search needs)
+    (search needs)
     opened-requires
     returns-2
     returns-3)

@@ -1,4 +1,4 @@
--- `tries::key` meets its contract.
+-- `tries::key` meets its contract: up to 64 a number is its own key, and any other has 65.
 use native.Mathlib.Omega.{arith}
 use borrow.Author.Tests.{le-leb, lt-leb}
 use Rattle.words.proofs.Rows.{hit, miss}

@@ -17,4 +17,4 @@ returns-2 : tie.Need-returns-2
 returns-2 c = answers (c .commit-in .ensures .is ∙ row-there _ _ _ _ _ (c .before .before .entry-in .ensures) (c .before .if1 .left))
 
 pub row-in-spec : {M : Type 1} → statement M
-row-in-spec = tie.close (tie.spec (λ c κs. search needs) (λ c κs. search needs) returns (λ c κs. search needs) returns-2)
+row-in-spec = tie.close (tie.spec (search needs) (search needs) returns (search needs) returns-2)

@@ -71,15 +71,4 @@ returns-5 c =
     (find-absent 32 _ _ _ (files look) (c .before .before .if2 .left) (c .before .if3 .left) _ (look .look .ensures .answer (omega arith)) (c .if4 .left))
 
 pub find-spec : {M : Type 1} → statement M
-find-spec =
-    tie.close
-    (tie.spec
-    (λ c κs. search needs)
-    returns
-    cast-n
-    look-requires
-    returns-2
-    (λ c κs. search needs)
-    returns-3
-    returns-4
-    returns-5)
+find-spec = tie.close (tie.spec (search needs) returns cast-n look-requires returns-2 (search needs) returns-3 returns-4 returns-5)

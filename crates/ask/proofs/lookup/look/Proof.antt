@@ -105,19 +105,19 @@ look-spec =
     Inv-loop
     μ-loop
     loop-holds
-    (λ c κs. search needs)
-    (λ c. search needs)
-    (λ c κs. search needs)
-    (λ c κs. search needs)
-    (λ c. search needs)
-    (λ c κs. search needs)
+    (search needs)
+    (search needs)
+    (search needs)
+    (search needs)
+    (search needs)
+    (search needs)
     returns
-    (λ c. search needs)
+    (search needs)
     noted-requires
     add-sum
     add-at
     add-k
     loop-less
     loop-again
-    (λ c κs. search needs)
+    (search needs)
     returns-2)

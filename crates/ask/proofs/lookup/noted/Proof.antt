@@ -33,15 +33,4 @@ returns-4 c =
     noted-new _ _ _ (c .before .before .before .if1 .left) (sym (c .before .before .lookup .ensures .0 .is) ∙ c .enum-told2 .given .1)
 
 pub noted-spec : {M : Type 1} → statement M
-noted-spec =
-    tie.close
-    (tie.spec
-    returns
-    (λ c κs. search needs)
-    (λ c. search needs)
-    add-pos
-    (λ c. search needs)
-    (λ c. search needs)
-    returns-2
-    returns-3
-    returns-4)
+noted-spec = tie.close (tie.spec returns (search needs) (search needs) add-pos (search needs) (search needs) returns-2 returns-3 returns-4)

@@ -19,13 +19,4 @@ returns-2 c =
     (c .commit-at .ensures .is))
 
 pub commit-at-spec : {M : Type 1} → statement M
-commit-at-spec =
-    tie.close
-    (tie.spec
-    (λ c κs. search needs)
-    (λ c. search needs)
-    (λ c. search needs)
-    (λ c κs. search needs)
-    (λ c κs. search needs)
-    returns
-    returns-2)
+commit-at-spec = tie.close (tie.spec (search needs) (search needs) (search needs) (search needs) (search needs) returns returns-2)

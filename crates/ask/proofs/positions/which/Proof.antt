@@ -17,10 +17,4 @@ returns-2 c =
     answers (which-fine 32 (start .args .chain) _ _ (sym (c .before .before .locate .ensures .is) ∙ c .enum-told .given .1))
 
 pub which-spec : {M : Type 1} → statement M
-which-spec =
-    tie.close (tie.spec
-    (λ c κs. search needs)
-    (λ c. search needs)
-    (λ c. search needs)
-    returns
-    returns-2)
+which-spec = tie.close (tie.spec (search needs) (search needs) (search needs) returns returns-2)

@@ -33,7 +33,7 @@ abbrev μ-loop : tie.MeasureT-loop
 -- what was cut out of the file, and what each list says of it that the table is right for
 module _ (ready : tie.After-missing Inv-loop μ-loop) where
   abbrev start : tie.Start Inv-loop μ-loop
-  start = ready .before .before .before .before .before .before .before .before .before .before
+  start = let rows = ready .before .before .before .before in rows .before .before .before .before .before .before
 
   abbrev parts : Parts
   parts =
@@ -134,25 +134,25 @@ scan-spec =
     (tie.spec
     Inv-loop
     μ-loop
-    (λ c κs. search needs)
-    (λ c. search needs)
-    (λ c κs. search needs)
-    (λ c. search needs)
+    (search needs)
+    (search needs)
+    (search needs)
+    (search needs)
     (λ c. omega (arith, narrow c))
-    (λ c κs. search needs)
-    (λ c κs. search needs)
-    (λ c κs. search needs)
-    (λ c κs. search needs)
-    (λ c κs. search needs)
+    (search needs)
+    (search needs)
+    (search needs)
+    (search needs)
+    (search needs)
     (λ c. λ z l p h b. try-begins z _ l _ b)
-    (λ c κs. search needs)
+    (search needs)
     (λ c κs. home (c .before))
     returns
-    (λ c κs. search needs)
-    (λ c. search needs)
-    (λ c. search needs)
+    (search needs)
+    (search needs)
+    (search needs)
     add-counts
-    (λ c. search needs)
+    (search needs)
     (λ c. let went = c .before .before .before .before .before in omega (arith, few (went .before .before)))
     (λ c. let went = c .before .before .before .before .before in omega (arith, went .before .before .loop-test .taken))
     loop-again

@@ -59,17 +59,17 @@ bad-base-spec =
     Inv-loop
     μ-loop
     (λ c. (omega arith, first-begins _ _))
-    (λ c. search needs)
-    (λ c. search needs)
-    (λ c. search needs)
-    (λ c. search needs)
-    (λ c. search needs)
+    (search needs)
+    (search needs)
+    (search needs)
+    (search needs)
+    (search needs)
     (λ c. omega (arith, here (c .before)))
-    (λ c κs. search needs)
+    (search needs)
     sub-same
-    (λ c κs. search needs)
+    (search needs)
     returns
-    (λ c. search needs)
-    (λ c. search needs)
+    (search needs)
+    (search needs)
     loop-again
     (λ c. first-ends _ _ _ (c .before .loop .inv .1) (c .loop-test .left)))

@@ -69,13 +69,13 @@ pub head-spec : {M : Type 1} → statement M
 head-spec =
     tie.close
     (tie.spec
-    (λ c. search needs)
+    (search needs)
     returns
-    (λ c. search needs)
-    (λ c κs. search needs)
+    (search needs)
+    (search needs)
     bad-base-requires
     returns-2
-    (λ c κs. search needs)
+    (search needs)
     returns-3
-    (λ c κs. search needs)
+    (search needs)
     returns-4)

@@ -42,8 +42,8 @@ returns c =
 
 gen-at-requires : tie.Need-gen-at-requires Inv-loop μ-loop
 gen-at-requires c κs =
-    let turn = c .before .before .before .before .before .before .before in
-    let start = turn .before .before .before .before .before in
+    let step = c .before .before .before .before in
+    let start = step .before .before .before .before .before .before .before .before in
     (start .pre, omega (arith, c .if1 .left, next-first (now (start .args .table)) (start .args .home)))
 
 add-parents : tie.Need-add-parents Inv-loop μ-loop
@@ -96,15 +96,15 @@ meet-spec =
     (λ c. let home = c .before .before .before .pre in omega (arith, row-room _ _ _ (home .tabled) _ (home .below)))
     (λ c. let home = c .before .before .before .before .pre in omega (arith, row-room _ _ _ (home .tabled) _ (home .below)))
     loop-holds
-    (λ c κs. search needs)
-    (λ c. search needs)
-    (λ c. search needs)
+    (search needs)
+    (search needs)
+    (search needs)
     returns
     gen-at-requires
     add-parents
     loop-less
     loop-again
-    (λ c. search needs)
+    (search needs)
     returns-2
-    (λ c. search needs)
+    (search needs)
     returns-3)

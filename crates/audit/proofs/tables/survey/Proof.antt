@@ -79,15 +79,15 @@ survey-spec =
     Inv-loop
     μ-loop
     loop-holds
-    (λ c κs. search needs)
-    (λ c. search needs)
-    (λ c κs. search needs)
-    (λ c κs. search needs)
-    (λ c. search needs)
-    (λ c κs. search needs)
+    (search needs)
+    (search needs)
+    (search needs)
+    (search needs)
+    (search needs)
+    (search needs)
     returns
-    (λ c. search needs)
-    (λ c. search needs)
+    (search needs)
+    (search needs)
     (λ c. omega (arith, room c))
     (λ c. omega (arith, room (c .before)))
     (λ c. omega (arith, room (c .before)))
@@ -97,7 +97,7 @@ survey-spec =
     (λ c. omega (arith, room (c .before)))
     (λ c. omega (arith, room (c .before)))
     (λ c. omega (arith, room (c .before)))
-    (λ c. search needs)
+    (search needs)
     (λ c. omega (arith, room (c .before .before)))
     (λ c. omega (arith, room (c .before .before)))
     (λ c. omega (arith, room (c .before .before)))
@@ -108,5 +108,5 @@ survey-spec =
     (λ c. omega (arith, room (c .before .before)))
     (λ c. omega (arith, room (c .before .before)))
     loop-again
-    (λ c κs. search needs)
+    (search needs)
     returns-2)

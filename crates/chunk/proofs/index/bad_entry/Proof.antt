@@ -31,7 +31,7 @@ bad-entry-spec =
     Inv-loop
     μ-loop
     loop-holds
-    (λ c κs. search needs)
+    (search needs)
     (λ c. search searching)
     (λ c. omega arith)
     (λ c. omega arith)

@@ -17,8 +17,4 @@ returns-2 : tie.Need-returns-2
 returns-2 c = (refl, omega (arith, c .shared-slice-known .given 6))
 
 pub count-spec : {M : Type 1} → statement M
-count-spec = tie.close (tie.spec
-    returns
-    (λ c. search needs)
-    cast-result
-    returns-2)
+count-spec = tie.close (tie.spec returns (search needs) cast-result returns-2)

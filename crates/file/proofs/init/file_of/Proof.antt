@@ -10,10 +10,4 @@ returns c =
     simp (c .start4 .ensures, c .before .start3 .ensures, c .before .before .start2 .ensures, c .before .before .before .start .ensures)
 
 pub file-of-spec : {M : Type 1} → statement M
-file-of-spec =
-    tie.close (tie.spec
-    (λ c κs. search needs)
-    (λ c κs. search needs)
-    (λ c κs. search needs)
-    (λ c κs. search needs)
-    returns)
+file-of-spec = tie.close (tie.spec (search needs) (search needs) (search needs) (search needs) returns)

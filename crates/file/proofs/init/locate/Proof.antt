@@ -17,12 +17,4 @@ returns c =
     )
 
 pub locate-spec : {M : Type 1} → statement M
-locate-spec =
-    tie.close
-    (tie.spec
-    (λ c κs. search needs)
-    (λ c κs. search needs)
-    (λ c κs. search needs)
-    (λ c κs. search needs)
-    (λ c κs. search needs)
-    returns)
+locate-spec = tie.close (tie.spec (search needs) (search needs) (search needs) (search needs) (search needs) returns)

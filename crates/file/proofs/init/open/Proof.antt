@@ -5,4 +5,4 @@ use Rattle.file.proofs.init.open.Statement.{statement}
 use Rattle.file.proofs.init.open.Tie as tie
 
 pub open-spec : {M : Type 1} → statement M
-open-spec = tie.close (tie.spec (λ c κs. search needs) (λ c. answers (search needs)))
+open-spec = tie.close (tie.spec (search needs) (λ c. answers (search needs)))

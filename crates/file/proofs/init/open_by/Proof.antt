@@ -59,13 +59,13 @@ pub open-by-spec : {M : Type 1} → statement M
 open-by-spec =
     tie.close
     (tie.spec
-    (λ c κs. search needs)
-    (λ c κs. search needs)
+    (search needs)
+    (search needs)
     returns
-    (λ c κs. search needs)
+    (search needs)
     returns-2
-    (λ c κs. search needs)
-    (λ c κs. search needs)
+    (search needs)
+    (search needs)
     shared-slice-read-chunks-open
     chunks-open-requires
     returns-3)

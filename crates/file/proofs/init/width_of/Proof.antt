@@ -9,5 +9,4 @@ unfolding width
 returns c = refl
 
 pub width-of-spec : {M : Type 1} → statement M
-width-of-spec = tie.close (tie.spec
-    returns)
+width-of-spec = tie.close (tie.spec returns)

@@ -10,10 +10,10 @@ unfolding baseRules
 base-rules-spec =
     tie.close
     (tie.spec
-    (λ c κs. search needs)
+    (search needs)
     (λ c. search rows depth 30)
-    (λ c κs. search needs)
+    (search needs)
     (λ c. search (rows, c .if2 .taken) depth 30)
-    (λ c κs. search needs)
+    (search needs)
     (λ c. search (rows, c .if3 .taken) depth 30)
     (λ c. search rows depth 30))

@@ -10,9 +10,9 @@ unfolding countRules
 count-rules-spec =
     tie.close
     (tie.spec
-    (λ c κs. search needs)
+    (search needs)
     (λ c. search (rows, c .if1 .taken) depth 30)
-    (λ c. search needs)
-    (λ c κs. search needs)
+    (search needs)
+    (search needs)
     (λ c. search (rows, c .if2 .taken) depth 30)
     (λ c. search rows depth 30))

@@ -32,11 +32,11 @@ fan-spec =
     (tie.spec
     Inv-loop
     μ-loop
-    (λ c κs. search needs)
+    (search needs)
     loop-holds
     (λ c. omega arith)
     (λ c. omega arith)
-    (λ c κs. search needs)
+    (search needs)
     (λ c. search (searching, falls-yes))
     (λ c. omega arith)
     (λ c. omega arith)

@@ -15,7 +15,4 @@ unfolding peakBy
 returns-2 c = miss _ _ 255 255 (c .if1 .left) refl
 
 pub fan-by-spec : {M : Type 1} → statement M
-fan-by-spec = tie.close (tie.spec
-    (λ c κs. search needs)
-    returns
-    returns-2)
+fan-by-spec = tie.close (tie.spec (search needs) returns returns-2)

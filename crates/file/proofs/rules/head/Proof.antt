@@ -12,10 +12,10 @@ head-spec =
     (tie.spec
     (λ c. search rows depth 30)
     (λ c. search rows depth 30)
-    (λ c κs. search needs)
+    (search needs)
     (λ c. search (rows, c .if3 .taken) depth 30)
-    (λ c. search needs)
+    (search needs)
     (λ c. search (rows, c .if4 .taken) depth 30)
-    (λ c. search needs)
+    (search needs)
     (λ c. search (rows, c .if5 .taken) depth 30)
     (λ c. search rows depth 30))

@@ -7,7 +7,4 @@ returns : tie.Need-returns
 returns c = rw (c .size .ensures)
 
 pub records-spec : {M : Type 1} → statement M
-records-spec = tie.close (tie.spec
-    (λ c κs. search needs)
-    (λ c. search needs)
-    returns)
+records-spec = tie.close (tie.spec (search needs) (search needs) returns)

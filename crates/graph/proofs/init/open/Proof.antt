@@ -12,7 +12,4 @@ returns-2 : tie.Need-returns-2
 returns-2 c = answers (opening-whole 32 _ _ (c .before .before .before .view .ensures) (c .if1 .left))
 
 pub open-spec : {M : Type 1} → statement M
-open-spec = tie.close (tie.spec
-    (λ c κs. search needs)
-    returns
-    returns-2)
+open-spec = tie.close (tie.spec (search needs) returns returns-2)

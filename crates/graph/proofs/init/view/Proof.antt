@@ -25,11 +25,4 @@ returns-2 : tie.Need-returns-2
 returns-2 c = view-passed 32 _ _ (c .before .before .before .check .ensures) (c .before .if1 .left) refl (c .pass .ensures)
 
 pub view-spec : {M : Type 1} → statement M
-view-spec =
-    tie.close (tie.spec
-    (λ c κs. search needs)
-    (λ c κs. search needs)
-    returns
-    cast-n
-    pass-requires
-    returns-2)
+view-spec = tie.close (tie.spec (search needs) (search needs) returns cast-n pass-requires returns-2)

@@ -21,9 +21,4 @@ returns-3 c =
     answers (locate-out 32 _ _ _ (looked .view .ensures) (c .before .before .if1 .left) (c .before .if2 .left) (c .at .ensures))
 
 pub locate-spec : {M : Type 1} → statement M
-locate-spec = tie.close (tie.spec
-    (λ c κs. search needs)
-    returns
-    returns-2
-    (λ c κs. search needs)
-    returns-3)
+locate-spec = tie.close (tie.spec (search needs) returns returns-2 (search needs) returns-3)

@@ -10,8 +10,4 @@ returns c =
     part-is _ (start .pre .0) _ (start .pre .1 .0) (start .pre .1 .1) (c .before .length-at .ensures) _ (c .part .ensures)
 
 pub file-at-spec : {M : Type 1} → statement M
-file-at-spec = tie.close (tie.spec
-    (λ c κs. search needs)
-    (λ c. search needs)
-    (λ c κs. search needs)
-    returns)
+file-at-spec = tie.close (tie.spec (search needs) (search needs) (search needs) returns)

@@ -13,7 +13,4 @@ returns-3 : tie.Need-returns-3
 returns-3 c = kept-here _ _ _ _ _ _ _ _ (c .before .if1 .left) (c .if2 .left)
 
 pub kept-spec : {M : Type 1} → statement M
-kept-spec = tie.close (tie.spec
-    returns
-    returns-2
-    returns-3)
+kept-spec = tie.close (tie.spec returns returns-2 returns-3)

@@ -90,19 +90,19 @@ pass-spec =
     (tie.spec
     Inv-loop
     μ-loop
-    (λ c κs. search needs)
+    (search needs)
     loop-holds
     file-at-requires
-    (λ c κs. search needs)
-    (λ c. search needs)
-    (λ c κs. search needs)
+    (search needs)
+    (search needs)
+    (search needs)
     returns
-    (λ c. search needs)
+    (search needs)
     add-next
-    (λ c κs. search needs)
+    (search needs)
     add-at
     add-k
     loop-less
     loop-again
-    (λ c κs. search needs)
+    (search needs)
     returns-2)

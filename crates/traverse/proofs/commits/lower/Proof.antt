@@ -1,4 +1,4 @@
--- `traverse::commits::lower` meets its contract.
+-- `traverse::commits::lower` meets its contract: the first commit's generation, a lower one, or the one before.
 use Rattle.traverse.proofs.Scanning.{lower-first, lower-new, lower-old}
 use Rattle.traverse.proofs.commits.lower.Statement.{statement}
 use Rattle.traverse.proofs.commits.lower.Tie as tie

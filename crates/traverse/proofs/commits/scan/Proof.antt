@@ -61,14 +61,15 @@ left t = t .loop-test .taken
 
 add-c : tie.Need-add-c Inv-loop μ-loop
 add-c c =
-    let turn = c .before .before .before .before .before .before .before .before .before .before in
+    let counted = c .before .before .before .before .before in
+    let turn = counted .before .before .before .before .before in
     let start = turn .before .before .before .before .before .before in
     omega (arith, left turn, start .fits)
 
 loop-less : tie.Need-loop-less Inv-loop μ-loop
 loop-less c =
-    let went = c .before .before .before .before .before .before .before .before in
-    omega (arith, left (went .before .before))
+    let counted = c .before .before .before .before .before in
+    omega (arith, left (counted .before .before .before .before .before))
 
 loop-again : tie.Need-loop-again Inv-loop μ-loop
 loop-again c =
@@ -90,15 +91,15 @@ scan-spec =
     Inv-loop
     μ-loop
     loop-holds
-    (λ c κs. search needs)
-    (λ c κs. search needs)
+    (search needs)
+    (search needs)
     returns
-    (λ c κs. search needs)
-    (λ c. search needs)
-    (λ c. search needs)
+    (search needs)
+    (search needs)
+    (search needs)
     add-counts
-    (λ c. search needs)
-    (λ c κs. search needs)
+    (search needs)
+    (search needs)
     add-c
     loop-less
     loop-again
