@@ -1,15 +1,15 @@
 // A line for each commit of a file, and whether the counts of parents agree with the walks.
-use super::walk::walk;
 use commit::Asked;
 use commit::commit_at;
 use commit::tree_at;
 use file::File;
-use lines::print::hex;
-use lines::print::number;
-use lines::print::print;
-use lines::print::refusal;
 use parents::Total;
 use parents::count_at;
+use prints::print::hex;
+use prints::print::number;
+use prints::print::print;
+use prints::print::refusal;
+use super::walk::walk;
 use types::file::Position;
 use types::refusal::Refusal;
 

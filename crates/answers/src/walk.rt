@@ -1,13 +1,13 @@
 // The parents of a commit: the whole walk on one line, and a single step.
 use file::File;
-use lines::print::number;
-use lines::print::print;
-use lines::print::refusal;
-use lines::step::answer;
-use lines::step::phase;
 use parents::Answer;
 use parents::Total;
 use parents::step_at;
+use prints::print::number;
+use prints::print::print;
+use prints::print::refusal;
+use prints::step::answer;
+use prints::step::phase;
 use steps::Phase;
 use types::file::Position;
 

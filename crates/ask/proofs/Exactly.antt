@@ -6,6 +6,7 @@ use mathlib.Core.Logic.{⊎-elim}
 use native.Mathlib.Omega.{arith}
 use lib.ListN.{length}
 use borrow.Author.Tests.{le-ltb, eqb-true}
+use Rattle.types.specs.Width.{known}
 use Rattle.words.specs.First.{_if_else_}
 use Rattle.types.specs.declared.graph.Position.{Position}
 use Rattle.words.specs.Big.{Bytes}
@@ -85,6 +86,7 @@ module _ (z : ℕ) (c l : List ℕ) where
 
   -- 41 asks for ids of 20 bytes, and those of each file have as many
   wide : (k : ℕ) {f : File} → openAt z c l k ≡ Open f → f .width ≡ 20
+  unfolding known
   wide k {f} e = eqb-true (f .width) 20 (file-opened z c l k e .known)
 
   module _ (s : Sorted z c l) (bc : Bytes c) where

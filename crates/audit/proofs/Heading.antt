@@ -8,6 +8,7 @@ use lib.Dec.{ltb, eqb}
 use lib.ListN.{length, getD}
 use denote.Ref.{RefT}
 use borrow.Author.Tests.{lt-ltb, le-ltb, eqb-true, ne-eqb}
+use Rattle.types.specs.Width.{known}
 use Rattle.words.specs.Big.{be, number}
 use Rattle.words.specs.First.{_if_else_, first}
 use Rattle.words.specs.Part.{RecordsOf}
@@ -54,6 +55,7 @@ module _ (z : ℕ) (c l : List ℕ) where
 
   -- the ids of all files are as wide: each has 20 bytes
   same-width : (i j : ℕ) {f g : File} → openAt z c l i ≡ Open f → openAt z c l j ≡ Open g → g .width ≡ f .width
+  unfolding known
   same-width i j {f} {g} p q = eqb-true (g .width) 20 (is-open z c l j q .known) ∙ sym (eqb-true (f .width) 20 (is-open z c l i p .known))
 
   module _ {t : List ℕ} (p : Tabled z c l t) where

@@ -1,8 +1,8 @@
 // The parent list of a commit: what it answers, and what the lent list holds afterwards.
-use lines::print::number;
-use lines::print::print;
-use lines::print::refusal;
 use parents::Total;
+use prints::print::number;
+use prints::print::print;
+use prints::print::refusal;
 use types::graph::Position;
 use walk::listing::list_at;
 use words::big::be32;

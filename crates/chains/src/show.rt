@@ -12,10 +12,10 @@ use commit::ParentEdge;
 use graph::locate::Located;
 use graph::locate::Spot;
 use graph::locate::locate;
-use lines::print::hex;
-use lines::print::number;
-use lines::print::print;
-use lines::print::refusal;
+use prints::print::hex;
+use prints::print::number;
+use prints::print::print;
+use prints::print::refusal;
 use types::graph::Position;
 use words::big::be32;
 

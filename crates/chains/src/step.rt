@@ -1,11 +1,11 @@
 // The parents of a commit: the whole walk, and single steps.
 use cases::step::phase_of;
-use lines::print::number;
-use lines::print::print;
-use lines::print::refusal;
-use lines::step::answer;
-use lines::step::phase;
 use parents::Answer;
+use prints::print::number;
+use prints::print::print;
+use prints::print::refusal;
+use prints::step::answer;
+use prints::step::phase;
 use steps::Phase;
 use types::graph::Position;
 use walk::Step;

@@ -64,7 +64,7 @@ headed l e =
     record { most = ltb-false _ _ (p1 .0); least = ltb-false _ _ (p2 .0) }
 
 pub width-known : (l : List ℕ) → known (width l) ≡ true
-unfolding width
+unfolding width known
 width-known l = refl
 
 -- the part that was cut out of a file for a chunk that lies in it is the chunk's own bytes

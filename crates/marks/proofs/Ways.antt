@@ -6,6 +6,7 @@ use native.Mathlib.Omega.{arith}
 use lib.ListN.{length}
 use denote.Ref.{RefT}
 use borrow.Author.Tests.{lt-ltb, le-ltb, eq-eqb, ne-eqb}
+use Rattle.types.specs.Width.{known}
 use Rattle.words.proofs.Rows.{refuse-some}
 use Rattle.types.specs.Refusals.{refusal}
 use Rattle.words.specs.Big.{Bytes}
@@ -130,6 +131,7 @@ module _ (l : List ℕ) where
       sized = rw (le-ltb 1073741824 (length l) h, le-ltb (length l) 1100 g)
 
       summed : n ≡ sumRule 20 l
+      unfolding known
       summed = d ∙ sum-plain 20 l refl (omega arith)
 
       pub check-wrong : 0 < n → Wrong (trailerAt l) ≡ checkOf l

@@ -6,10 +6,10 @@ use cases::record::room;
 use file::File;
 use file::Opening;
 use file::init::open;
-use lines::print::hex;
-use lines::print::number;
-use lines::print::print;
-use lines::print::refusal;
+use prints::print::hex;
+use prints::print::number;
+use prints::print::print;
+use prints::print::refusal;
 use types::refusal::Refusal;
 
 fn print_file(f: File) {

@@ -6,7 +6,7 @@ mod single;
 
 use cases::record::read;
 use cases::record::room;
-use lines::print::print;
+use prints::print::print;
 use report::report;
 use single::single;
 

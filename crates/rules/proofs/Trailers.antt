@@ -21,20 +21,20 @@ use Rattle.rules.specs.Facts.{Summed, Named}
 -- the ways to a rule of the trailer: another width, too few bytes, and the rule itself
 module _ (w : ℕ) (p : List ℕ) (rest : ℕ) where
   pub trailer-strange : (w ≡ 20 → ⊥) → 40 ≡ trailing w p rest
-  unfolding trailing
+  unfolding trailing known
   trailer-strange h = hit 40 _ _ (ne-not w 20 h)
 
   pub trailer-short : w ≡ 20 → length p < w → 40 ≡ trailing w p rest
-  unfolding trailing
+  unfolding trailing known
   trailer-short e h = miss 40 _ _ 40 (eq-not w 20 e) (hit 40 _ rest (lt-ltb (length p) w h))
 
   pub trailer-there : w ≡ 20 → w ≤ length p → rest ≡ trailing w p rest
-  unfolding trailing
+  unfolding trailing known
   trailer-there e h = miss 40 _ _ rest (eq-not w 20 e) (miss 40 _ rest rest (le-ltb (length p) w h) refl)
 
 -- bytes that have a trailer: the rules themselves
 pub sum-plain : (w : ℕ) (p : List ℕ) → known w ≡ true → w ≤ length p → sumIn w p ≡ sumRule w p
-unfolding sumIn
+unfolding sumIn known
 sum-plain w p k h = sym (trailer-there w p (sumRule w p) (eqb-true w 20 k) h)
 
 -- the ways to the rule of the name: a record that is not in the list, and the rule of the trailer; n is how many there are
@@ -50,6 +50,7 @@ module _ (w z : ℕ) (l : List ℕ) (k : ℕ) (p : List ℕ) {n : ℕ} (e : n �
 -- a record of the list, and bytes that have a trailer: the rule itself
 pub name-plain : (w z : ℕ) (l : List ℕ) (k : ℕ) (p : List ℕ) → k < recordsOf z l → known w ≡ true → w ≤ length p
     → nameIn w z l k p ≡ nameRule w z l k p
+unfolding known
 name-plain w z l k p b e h = sym (name-there w z l k p refl b (trailer-there w p (nameRule w z l k p) (eqb-true w 20 e) h))
 
 -- 62: the trailer was compared with a digest d

@@ -13,6 +13,7 @@ small-product m r h g = let z : m * r ≤ 2 ^ 32 * 1000 = mul-le-mul (le-of-lt h
 
 module _ (w : ℕ) (k : known w ≡ true) where
   pub width-bounds : (20 ≤ w) × (w ≤ 32)
+  unfolding known
   width-bounds = omega (arith, eqb-true w 20 k)
 
   -- n ids, and n commits: an id and 16 bytes each

@@ -2,6 +2,7 @@
 use Prim.Native.Nat.{ℕ}
 use mathlib.Core.Path.{_≡_}
 use denote.Ref.{now}
+use Rattle.types.specs.Width.{known}
 use Rattle.words.proofs.Rows.{rows}
 use Rattle.rules.specs.Rules.{nameRule, nameIn, trailing}
 use Rattle.rules.proofs.Trailers.{name-out, name-there}
@@ -20,27 +21,27 @@ returns : tie.Need-returns
 returns c = name-out _ _ _ _ _ (c .before .count .ensures) (c .if1 .taken)
 
 returns-2 : tie.Need-returns-2
-unfolding nameRule trailing
+unfolding nameRule trailing known
 returns-2 c = listed (c .before) (search (rows, c .if2 .taken) depth 30)
 
 returns-3 : tie.Need-returns-3
-unfolding nameRule trailing
+unfolding nameRule trailing known
 returns-3 c = listed (c .before .before) (search rows depth 30)
 
 returns-4 : tie.Need-returns-4
-unfolding nameRule trailing
+unfolding nameRule trailing known
 returns-4 c = listed (c .before .before .before .before) (search rows depth 30)
 
 returns-5 : tie.Need-returns-5
-unfolding nameRule trailing
+unfolding nameRule trailing known
 returns-5 c = let kind = c .before .before .before in listed (kind .before .before .before .before) (search (rows, kind .if4 .left) depth 30)
 
 returns-6 : tie.Need-returns-6
-unfolding nameRule trailing
+unfolding nameRule trailing known
 returns-6 c = let kind = c .before .before .before in listed (kind .before .before .before .before) (search (rows, kind .if4 .left) depth 30)
 
 returns-7 : tie.Need-returns-7
-unfolding nameRule trailing
+unfolding nameRule trailing known
 returns-7 c = let kind = c .before in listed (kind .before .before .before .before) (search (rows, c .if5 .left, kind .if4 .left) depth 30)
 
 pub name-in-spec : {M : Type 1} → statement M

@@ -1,9 +1,9 @@
--- `lines::print::hex` meets its contract. The invariant: i ≤ the length. The measure: the bytes left.
+-- `prints::print::hex` meets its contract. The invariant: i ≤ the length. The measure: the bytes left.
 use Prim.Native.Nat.{_≤_, _-_}
 use borrow.Author.Needs.{needs}
 use lib.ListN.{length}
-use Rattle.lines.proofs.print.hex.Statement.{statement}
-use Rattle.lines.proofs.print.hex.Tie as tie
+use Rattle.prints.proofs.print.hex.Statement.{statement}
+use Rattle.prints.proofs.print.hex.Tie as tie
 
 abbrev Inv-loop : tie.InvT-loop
 Inv-loop s i₀ i = i ≤ length s

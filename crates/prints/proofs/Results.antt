@@ -1,12 +1,12 @@
 -- Any two results that a public function's promise allows on the same arguments are equal. Made by tests/results.py.
 use mathlib.Core.Path.{refl}
 use Rattle.words.proofs.Determined.{Determined}
-use Rattle.lines.proofs.print.print.Reads as print
-use Rattle.lines.proofs.print.number.Reads as number
-use Rattle.lines.proofs.print.hex.Reads as hex
-use Rattle.lines.proofs.print.refusal.Reads as refusal
-use Rattle.lines.proofs.step.phase.Reads as phase
-use Rattle.lines.proofs.step.answer.Reads as answer
+use Rattle.prints.proofs.print.print.Reads as print
+use Rattle.prints.proofs.print.number.Reads as number
+use Rattle.prints.proofs.print.hex.Reads as hex
+use Rattle.prints.proofs.print.refusal.Reads as refusal
+use Rattle.prints.proofs.step.phase.Reads as phase
+use Rattle.prints.proofs.step.answer.Reads as answer
 
 pub print-determined : Determined print.Learnt
 print-determined κs a y z d e p q = refl
