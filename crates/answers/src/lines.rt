@@ -1,4 +1,5 @@
 // A line for each commit of a file, and whether the counts of parents agree with the walks.
+use super::walk::walk;
 use commit::Asked;
 use commit::commit_at;
 use commit::tree_at;
@@ -9,7 +10,6 @@ use prints::print::hex;
 use prints::print::number;
 use prints::print::print;
 use prints::print::refusal;
-use super::walk::walk;
 use types::file::Position;
 use types::refusal::Refusal;
 
