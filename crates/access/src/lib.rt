@@ -1,4 +1,6 @@
 // Ids of one file: at a position, of its bases, and the position of an id.
+#![tactic(auto)]
+
 ghost use Rattle.std.specs.Prelude.{◌≡◌, ◌+◌, ◌*◌, ◌<◌, length};
 ghost use Rattle.access.specs.Said.{asking_said, found_said};
 ghost use Rattle.types.specs.Said.{Answers};
@@ -18,13 +20,13 @@ use words::big::be32;
 use words::part::part;
 
 // Which refusal a question for a part met.
-#[derive(Drop)]
+#[derive(Clone, Copy)]
 pub enum Asking {
     Fine,
     Refused(Refusal),
 }
 
-#[derive(Drop)]
+#[derive(Clone, Copy)]
 pub enum Found {
     At(Position),
     Absent,

@@ -2,6 +2,8 @@
 // A record there is a kind, a length of 4 bytes and that many bytes. 'g' is a file: a line for each commit, then whether lookup and the counts agree.
 // 's' is a position (4 bytes), a phase (1), an EDGE number (8) and a file: one step.
 // What it reads and what it must print is made by `python3 tests/answers.py crates/answers`.
+#![tactic(auto)]
+
 mod lines;
 mod seek;
 mod walk;

@@ -17,7 +17,7 @@ use types::refusal;
 use types::refusal::{ID_WIDTH, Refusal};
 use words::part::part;
 
-#[derive(Drop)]
+#[derive(Clone, Copy)]
 pub enum Found {
     At(Position),
     Absent,
@@ -25,14 +25,14 @@ pub enum Found {
 }
 
 // Whether the id was seen, and its first position.
-#[derive(Drop)]
+#[derive(Clone, Copy)]
 pub struct Hit {
     pub seen: bool,
     pub pos: u32,
 }
 
 // The first refusal of a file's opening, and what was seen.
-#[derive(Drop)]
+#[derive(Clone, Copy)]
 pub struct Search {
     pub refusal: Refusal,
     pub hit: Hit,

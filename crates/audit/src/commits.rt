@@ -14,14 +14,14 @@ use types::refusal::GENERATION;
 use words::part::part;
 
 // What the commits of some files come to: how many have each number of parents, and their highest generation.
-#[derive(Drop)]
+#[derive(Clone, Copy)]
 pub struct Tally {
     pub counts: [u32; 66],
     pub highest: u32,
 }
 
 // How the commits of a file went, and the tally up to its end.
-#[derive(Drop)]
+#[derive(Clone, Copy)]
 pub struct Scanned {
     pub number: u32,
     pub place: u32,

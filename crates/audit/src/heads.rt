@@ -13,7 +13,7 @@ use types::refusal::{BASE_ID, BASES};
 use words::part::part;
 
 // A refusal or 0, and its place.
-#[derive(Drop)]
+#[derive(Clone, Copy)]
 pub struct Judged {
     pub number: u32,
     pub place: u32,

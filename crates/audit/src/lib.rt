@@ -1,4 +1,6 @@
 // Verification of a chain: every file and every commit, the first refusal, or what the commits add up to.
+#![tactic(auto)]
+
 mod commits;
 mod heads;
 mod meets;
@@ -24,26 +26,26 @@ use types::refusal::Refusal;
 use words::part::part;
 
 // The length of the longest run of parent steps, or that some commit is its own ancestor.
-#[derive(Drop)]
+#[derive(Clone, Copy)]
 pub enum Length {
     Steps(u32),
     Cyclic,
 }
 
-#[derive(Drop)]
+#[derive(Clone, Copy)]
 pub struct Summary {
     pub commits: u32,
     pub length: Length,
 }
 
-#[derive(Drop)]
+#[derive(Clone, Copy)]
 pub enum Verdict {
     Accepted(Summary),
     Refused(Refusal),
 }
 
 // The counts are of commits with 0 to 64 parents, and with more; all 0 on refusal.
-#[derive(Drop)]
+#[derive(Clone, Copy)]
 pub struct Verification {
     pub verdict: Verdict,
     pub counts: [u32; 66],

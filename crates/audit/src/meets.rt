@@ -10,7 +10,7 @@ use words::big::be32;
 use words::part::part;
 
 // How a walk went: a refusal or 0, how many parents, and their highest generation.
-#[derive(Drop)]
+#[derive(Clone, Copy)]
 pub struct Met {
     pub number: u32,
     pub parents: usize,

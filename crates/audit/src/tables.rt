@@ -14,7 +14,7 @@ use words::part::part;
 
 // The first refusal of a file's opening; and a table with a row of four numbers a file: where it starts in the chain, its first position, where its CDAT
 // chunk lies in the chain, and the width of its ids. One more row has the two ends.
-#[derive(Drop)]
+#[derive(Clone, Copy)]
 pub struct Tables {
     pub refusal: Refusal,
     pub table: [usize; 1028],

@@ -1,4 +1,6 @@
 // One block: the schedule of 80 words, the 80 rounds, and the sums; and the whole blocks of a part, one after the other.
+#![tactic(auto)]
+
 ghost use Rattle.std.specs.Prelude.{◌≡◌, ℕ, ◌<◌, ◌≤◌, List, length, take};
 ghost use Rattle.block.specs.Message.{after_all};
 ghost use Rattle.block.specs.Fips.{rotl, f, k, schedule, round, rounds, compress};

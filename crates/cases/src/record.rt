@@ -6,7 +6,7 @@ use libc::STDIN_FILENO;
 use words::big::be32;
 
 // Whether there is one, its kind, and how many bytes it has.
-#[derive(Drop)]
+#[derive(Clone, Copy)]
 pub struct Record {
     pub there: bool,
     pub kind: u8,

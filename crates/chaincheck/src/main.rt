@@ -1,5 +1,7 @@
 // Verifies a chain: standard input holds the list's length in 4 bytes, the list, then the chain. Prints what document 01 says.
 // What it reads and what it must print is made by `python3 tests/chaincheck.py crates/chaincheck`.
+#![tactic(auto)]
+
 ghost use Rattle.std.specs.Prelude.{◌≡◌, length};
 
 use libc::{STDIN_FILENO, STDOUT_FILENO};

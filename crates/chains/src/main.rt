@@ -5,6 +5,8 @@
 // 'l' asks for parent lists, each a position (4 bytes) and how many entries the list has (4, at most 80).
 // 'f' looks an id up. 'p' asks for positions, 4 bytes each.
 // What it reads and what it must print is made by `python3 tests/chains.py crates/chains`.
+#![tactic(auto)]
+
 mod list;
 mod show;
 mod step;

@@ -1,4 +1,6 @@
 // The chunk index of a file: C + 1 entries of 12 bytes behind the header of 8, each a 4-byte id and an 8-byte offset.
+#![tactic(auto)]
+
 mod index;
 
 ghost use Rattle.std.specs.Prelude.{◌≡◌, ◌+◌};
@@ -12,26 +14,26 @@ use types::refusal;
 use types::refusal::Refusal;
 
 // The bytes from `start` up to `end`, as the index says.
-#[derive(Drop)]
+#[derive(Clone, Copy)]
 pub struct Span {
     pub start: usize,
     pub end: usize,
 }
 
-#[derive(Drop)]
+#[derive(Clone, Copy)]
 pub enum Chunk {
     At(Span),
     Absent,
 }
 
 // An entry of the index: the chunk's id and its bytes.
-#[derive(Drop)]
+#[derive(Clone, Copy)]
 pub struct Entry {
     pub id: u32,
     pub span: Span,
 }
 
-#[derive(Drop)]
+#[derive(Clone, Copy)]
 pub enum Indexed {
     Entry(Entry),
     Past,

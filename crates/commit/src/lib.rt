@@ -1,4 +1,6 @@
 // Commits of one file: tree, generation, time and parent words.
+#![tactic(auto)]
+
 ghost use Rattle.std.specs.Prelude.{◌≡◌, ◌+◌, ◌*◌, ◌≤◌, ◌<◌, length};
 ghost use Rattle.commit.specs.Said.{asked_said};
 ghost use Rattle.types.specs.Said.{Answers};
@@ -17,14 +19,14 @@ use words::big::be32;
 use words::part::part;
 
 // A parent word: none, a position in the chain, or an index into EDGE.
-#[derive(Drop)]
+#[derive(Clone, Copy)]
 pub enum ParentEdge {
     None,
     GraphPosition(Position),
     ExtraEdgeIndex(u32),
 }
 
-#[derive(Drop)]
+#[derive(Clone, Copy)]
 pub struct Commit {
     pub generation: u32,
     pub time: u64,
@@ -32,7 +34,7 @@ pub struct Commit {
     pub second: ParentEdge,
 }
 
-#[derive(Drop)]
+#[derive(Clone, Copy)]
 pub enum Asked {
     Commit(Commit),
     Refused(Refusal),

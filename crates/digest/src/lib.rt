@@ -1,4 +1,6 @@
 // SHA-1, as FIPS 180-4 defines it: the digest of a slice. specs/Fips.antt is the standard, with those of the crates `hasher` and `block`.
+#![tactic(auto)]
+
 ghost use Rattle.std.specs.Prelude.{◌≡◌};
 ghost use Rattle.digest.specs.Fips.{sha1_of};
 

@@ -1,4 +1,6 @@
 // One commit-graph file. The ids and numbers are those of gitformat-commit-graph.
+#![tactic(auto)]
+
 pub mod init;
 mod rules;
 
@@ -6,7 +8,7 @@ use chunk::Chunk;
 use types::refusal::Refusal;
 
 // What an opened file says of itself: commits N, bases B, the width of an id, and where its chunks start.
-#[derive(Drop)]
+#[derive(Clone, Copy)]
 pub struct File {
     pub commits: u32,
     pub bases: u8,
@@ -18,7 +20,7 @@ pub struct File {
     pub base: usize,
 }
 
-#[derive(Drop)]
+#[derive(Clone, Copy)]
 pub enum Opening {
     Open(File),
     Refused(Refusal),

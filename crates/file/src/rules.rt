@@ -12,7 +12,7 @@ use types::refusal::{
 use words::big::be32;
 
 // The chunks that opening asks for.
-#[derive(Drop)]
+#[derive(Clone, Copy)]
 pub struct Index {
     pub base: Chunk,
     pub cdat: Chunk,

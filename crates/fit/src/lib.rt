@@ -1,4 +1,6 @@
 // Whether a file's record fits the bytes it is used with. A record may be forged, or of another file.
+#![tactic(auto)]
+
 ghost use Rattle.std.specs.Prelude.{◌≡◌};
 ghost use Rattle.words.specs.Part.{fits};
 ghost use Rattle.chunk.specs.Index.{start_of, size_of};

@@ -9,7 +9,7 @@ use list::check;
 use types::refusal::Refusal;
 
 // A chain's commits.
-#[derive(Drop)]
+#[derive(Clone, Copy)]
 pub enum Opening {
     Open(u32),
     Refused(Refusal),

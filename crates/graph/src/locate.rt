@@ -12,7 +12,7 @@ use types::refusal;
 use types::refusal::{POSITION, Refusal};
 
 // A position's file: its index, where it starts in the chain and how long it is; the position in it; and its record.
-#[derive(Drop)]
+#[derive(Clone, Copy)]
 pub struct Spot {
     pub file: u32,
     pub start: usize,
@@ -21,7 +21,7 @@ pub struct Spot {
     pub inner: File,
 }
 
-#[derive(Drop)]
+#[derive(Clone, Copy)]
 pub enum Located {
     At(Spot),
     Refused(Refusal),

@@ -16,14 +16,14 @@ use types::refusal::Refusal;
 use words::part::part;
 
 // Whether the file that has the position asked was met, and where the position stands.
-#[derive(Drop)]
+#[derive(Clone, Copy)]
 pub struct Mark {
     pub found: bool,
     pub spot: Spot,
 }
 
 // The first refusal of a file's opening, the commits of all files, and the file that has the position asked.
-#[derive(Drop)]
+#[derive(Clone, Copy)]
 pub struct Survey {
     pub refusal: Refusal,
     pub commits: u32,

@@ -1,5 +1,7 @@
 // A SHA-1 digest taken piece by piece. A hasher holds the bytes of the open block, the five words after the blocks before it, and the
 // count of all bytes. How many bytes are open is the count's remainder by 64, so every value of the struct is a hasher.
+#![tactic(auto)]
+
 mod fields;
 
 ghost use Rattle.std.specs.Prelude.{◌≡◌};
@@ -8,7 +10,7 @@ ghost use Rattle.hasher.specs.State.{started, updated, finished};
 use block::blocks;
 use fields::{digest, joined, length_bytes};
 
-#[derive(Drop)]
+#[derive(Clone, Copy)]
 pub struct Hasher {
     pub block: [u8; 64],
     pub words: [u32; 5],

@@ -1,4 +1,6 @@
 // The list that names a chain's files, in records of one size `z`: length (4), name kind (4), claimed hash (20), four zero bytes.
+#![tactic(auto)]
+
 ghost use Rattle.std.specs.Prelude.{◌≡◌, ◌+◌, ◌*◌, ◌≤◌, ◌<◌, not, ◌&&◌, eqb, length};
 ghost use Rattle.types.specs.Refusals.{refusal};
 ghost use Rattle.words.specs.Big.{be, number};

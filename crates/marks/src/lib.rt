@@ -1,4 +1,6 @@
 // For who looks at a file's bytes: where a parent was read, where a date stands, what is wrong with an entry, whether the trailer is right.
+#![tactic(auto)]
+
 ghost use Rattle.std.specs.Prelude.{◌≡◌, ◌^◌, ◌<◌};
 ghost use Rattle.access.specs.Said.{asking_said};
 ghost use Rattle.marks.specs.Said.{mark_said, checked_said};
@@ -20,7 +22,7 @@ use types::refusal::{Refusal, TOO_LARGE, TOO_SMALL};
 use words::part::part;
 
 // Where the bytes stand that answer a question.
-#[derive(Drop)]
+#[derive(Clone, Copy)]
 pub enum Mark {
     At(Span),
     Nothing,
@@ -28,7 +30,7 @@ pub enum Mark {
 }
 
 // Where the trailer stands, and whether it is the SHA-1 of all bytes before it.
-#[derive(Drop)]
+#[derive(Clone, Copy)]
 pub enum Checked {
     Right(Span),
     Wrong(Span),

@@ -1,11 +1,13 @@
 // The kind of a file's name: 1 for graph-HASH.graph, with the hash it claims, 2 for that shape without a hash, 0 for any other name.
+#![tactic(auto)]
+
 ghost use Rattle.std.specs.Prelude.{◌≡◌, ◌+◌, ◌-◌, ◌*◌, ◌≤◌, ◌<◌, length};
 ghost use Rattle.words.specs.First.{first};
 ghost use Rattle.name.specs.Names.{digit_of, misfit, kind_of, Hexed, hash_of, name_of};
 
 use order::same;
 
-#[derive(Drop)]
+#[derive(Clone, Copy)]
 pub struct Name {
     pub kind: u32,
     pub hash: [u8; 20],

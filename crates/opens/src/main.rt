@@ -1,6 +1,8 @@
 // Opens files and reads names, as standard input asks, and prints a line for each answer.
 // A record there is a kind, a length of 4 bytes and that many bytes: 'f' is a file, 'c' a file of which every prefix is opened, 'n' a file's name.
 // What it reads and what it must print is made by `python3 tests/opens.py crates/opens`.
+#![tactic(auto)]
+
 use cases::record::{read, room};
 use file::init::open;
 use file::{File, Opening};

@@ -1,11 +1,13 @@
 // How two runs of bytes stand to each other: as numbers, so the first difference decides.
+#![tactic(auto)]
+
 ghost use Rattle.std.specs.Prelude.{◌≡◌, ◌-◌, min, length, eqb};
 ghost use Rattle.order.specs.Said.{order_said};
 ghost use Rattle.types.specs.Said.{Answers};
 ghost use Rattle.words.specs.Big.{be, number};
 ghost use Rattle.order.specs.Order.{order};
 
-#[derive(Drop)]
+#[derive(Clone, Copy)]
 pub enum Order {
     Less,
     Equal,

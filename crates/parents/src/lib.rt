@@ -1,4 +1,6 @@
 // A file's commit: one step over its parents, and how many there are.
+#![tactic(auto)]
+
 pub mod listing;
 
 ghost use Rattle.std.specs.Prelude.{◌≡◌, not};
@@ -18,21 +20,21 @@ use types::refusal::Refusal;
 use words::part::part;
 
 // What a step of a file's commit answers.
-#[derive(Drop)]
+#[derive(Clone, Copy)]
 pub enum Answer {
     Parent(Parent),
     Refused(Refusal),
     End,
 }
 
-#[derive(Drop)]
+#[derive(Clone, Copy)]
 pub struct Step {
     pub answer: Answer,
     pub next: Phase,
 }
 
 // How many parents a file's commit has.
-#[derive(Drop)]
+#[derive(Clone, Copy)]
 pub enum Total {
     Count(usize),
     Refused(Refusal),

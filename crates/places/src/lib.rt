@@ -1,4 +1,6 @@
 // Where the parts lie that the library hands out, in the numbers that cross to C and Rust.
+#![tactic(auto)]
+
 ghost use Rattle.std.specs.Prelude.{◌≡◌, ◌+◌, ◌*◌, ◌^◌, ◌≤◌, ◌<◌, length};
 ghost use Rattle.fit.specs.Fits.{ask_rule, Fitted};
 ghost use Rattle.access.specs.Lookup.{asking};

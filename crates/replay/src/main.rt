@@ -2,6 +2,8 @@
 // A record of standard input is a letter, a length of 4 bytes and that many bytes: one whole input.
 // 'v' asks for the program's lines alone; 't' then asks for the traversal of the chain as one file, and for its trailer.
 // What it reads and what it must print is made by `python3 tests/replay.py crates/replay`.
+#![tactic(auto)]
+
 mod single;
 
 use cases::record::{read, room};

@@ -1,4 +1,6 @@
 // What the program prints for its whole input: the lines of the verification, or that the input cannot be read.
+#![tactic(auto)]
+
 mod lines;
 
 ghost use Rattle.std.specs.Prelude.{◌≡◌, ◌++◌, ◌≤◌, length, take, drop};

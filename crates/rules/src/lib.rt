@@ -1,4 +1,6 @@
 // Refusals 62 to 67: the trailer, the name, and a commit's entry. Each is a number, or 0 for none.
+#![tactic(auto)]
+
 ghost use Rattle.std.specs.Prelude.{◌≡◌, true, not, ◌+◌, ◌-◌, ◌*◌, ◌≤◌, ◌<◌, eqb, leb, ltb, length, take};
 ghost use Rattle.types.specs.Width.{known};
 ghost use Rattle.words.specs.Big.{be, number};

@@ -1,4 +1,6 @@
 // The walk over two parent words and an EDGE chunk: one step from a phase to the next, and how many parents there are.
+#![tactic(auto)]
+
 ghost use Rattle.std.specs.Prelude.{◌≡◌};
 ghost use Rattle.types.specs.Said.{Answers};
 ghost use Rattle.steps.specs.Said.{phase_of, next_said, counted_said, phase_said};
@@ -21,14 +23,14 @@ use types::refusal::{EDGE_CUT, EDGE_MISSING, EDGE_OUT, FIRST_EDGE, SECOND_ALONE}
 use words::big::be32;
 
 // An EDGE word: a position with more to follow, or the last.
-#[derive(Drop)]
+#[derive(Clone, Copy)]
 pub enum ExtraEdge {
     Internal(Position),
     Last(Position),
 }
 
 // Where a walk stands: before the first parent, before the second, before an EDGE number, or at its end.
-#[derive(Drop)]
+#[derive(Clone, Copy)]
 pub enum Phase {
     First,
     Second,
@@ -36,26 +38,26 @@ pub enum Phase {
     Exhausted,
 }
 
-#[derive(Drop)]
+#[derive(Clone, Copy)]
 pub struct Parent {
     pub position: Position,
 }
 
 // What a step meets: a parent, a refusal by its number, or the end; and the phase after it.
-#[derive(Drop)]
+#[derive(Clone, Copy)]
 pub enum Met {
     Parent(Parent),
     Refused(u32),
     End,
 }
 
-#[derive(Drop)]
+#[derive(Clone, Copy)]
 pub struct Next {
     pub met: Met,
     pub phase: Phase,
 }
 
-#[derive(Drop)]
+#[derive(Clone, Copy)]
 pub enum Counted {
     Count(usize),
     Refused(u32),

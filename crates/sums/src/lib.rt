@@ -1,4 +1,6 @@
 // The trailer of one file: where it lies, and whether it is the SHA-1 of what stands before it.
+#![tactic(auto)]
+
 ghost use Rattle.access.specs.Said.{asking_said};
 ghost use Rattle.types.specs.Said.{Answers};
 ghost use Rattle.std.specs.Prelude.{◌-◌, length};

@@ -1,4 +1,6 @@
 // Text written into a lent buffer, at a place that moves on. What does not fit is not written, and the place stays.
+#![tactic(auto)]
+
 ghost use Rattle.std.specs.Prelude.{◌≡◌, ◌+◌, ◌<◌, length};
 ghost use Rattle.text.specs.Text.{dec, written, after};
 

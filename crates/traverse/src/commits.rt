@@ -12,7 +12,7 @@ use tries::{Tried, key, row_in, stopped};
 use words::part::part;
 
 // How the commits of a file went.
-#[derive(Drop)]
+#[derive(Clone, Copy)]
 pub struct Scanned {
     pub number: u32,
     pub place: u32,

@@ -1,4 +1,6 @@
 // One file verified: its trailer, its name, and each of its commits.
+#![tactic(auto)]
+
 pub mod commits;
 
 ghost use Rattle.std.specs.Prelude.{◌≡◌, ◌-◌, length};
@@ -18,7 +20,7 @@ use types::refusal;
 use types::refusal::{LIST_SIZE, Refusal, TOO_LARGE};
 
 // What the commits of a file add up to.
-#[derive(Drop)]
+#[derive(Clone, Copy)]
 pub struct Summary {
     pub commits: u32,
     pub highest: u32,
@@ -26,14 +28,14 @@ pub struct Summary {
     pub most: usize,
 }
 
-#[derive(Drop)]
+#[derive(Clone, Copy)]
 pub enum Verdict {
     Accepted(Summary),
     Refused(Refusal),
 }
 
 // The counts are of commits with 0 to 64 parents, and with more; all 0 on refusal.
-#[derive(Drop)]
+#[derive(Clone, Copy)]
 pub struct Traversal {
     pub verdict: Verdict,
     pub counts: [u32; 66],

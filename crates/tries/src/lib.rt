@@ -1,4 +1,6 @@
 // One commit of a file tried: the rules of its entry, then its row. What a traversal and a verification share.
+#![tactic(auto)]
+
 ghost use Rattle.std.specs.Prelude.{◌≡◌, ◌<◌};
 ghost use Rattle.types.specs.Said.{Answers};
 ghost use Rattle.ancestry.specs.Counts.{key_of};
@@ -11,7 +13,7 @@ use types::file::Position;
 use types::refusal;
 
 // How a commit went: a refusal or 0, how many parents, its generation.
-#[derive(Drop)]
+#[derive(Clone, Copy)]
 pub struct Tried {
     pub number: u32,
     pub parents: usize,

@@ -1,3 +1,3 @@
 // The position of a commit within the whole chain, starting at 0.
-#[derive(Drop)]
+#[derive(Clone, Copy)]
 pub struct Position(pub u32);

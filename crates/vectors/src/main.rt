@@ -1,5 +1,7 @@
 // Prints SHA-1 digests, one a line: of the published messages, and of every length of a pattern up to 200, whole and in two pieces.
 // What it must print is made by `bash crates/vectors/make > crates/vectors/stdout`.
+#![tactic(auto)]
+
 ghost use Rattle.std.specs.Prelude.{◌≡◌, min};
 
 use digest::sha1;

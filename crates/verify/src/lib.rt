@@ -1,4 +1,6 @@
 // A chain verified, and what the answer comes to: acceptance is exact, the counts add up, lookup is exact, and the length is true.
+#![tactic(auto)]
+
 ghost use Rattle.audit.specs.Said.{verification_said};
 ghost use Rattle.types.specs.Said.{Answers};
 ghost use Rattle.audit.specs.Rules.{verification};

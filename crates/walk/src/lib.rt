@@ -1,4 +1,6 @@
 // The walk over a commit's parents in a chain: a step that takes the walk and hands it back, and one that changes it in place.
+#![tactic(auto)]
+
 pub mod listing;
 
 ghost use Rattle.std.specs.Prelude.{◌≡◌};
@@ -12,13 +14,13 @@ use steps::Phase;
 use types::graph::Position;
 use words::part::part;
 
-#[derive(Drop)]
+#[derive(Clone, Copy)]
 pub struct Walk {
     pub commit: Position,
     pub phase: Phase,
 }
 
-#[derive(Drop)]
+#[derive(Clone, Copy)]
 pub struct Step {
     pub answer: Answer,
     pub next: Walk,
