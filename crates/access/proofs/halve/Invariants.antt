@@ -1,0 +1,15 @@
+-- `access::halve` meets its contract. The invariant: hi ≤ to, and halving from `lo` to `hi` answers as halving from `from` to `to` does.
+-- The measure is hi - lo. Each turn goes below the middle, stops there or goes above it (`turn-less`, `turn-equal`, `turn-greater`); where lo < hi
+-- fails nothing is left (`halving-none`).
+use Prim.Native.Nat.{◌-◌, ◌≤◌}
+use mathlib.Core.Path.{◌≡◌}
+use lib.ListN.{length}
+use Rattle.words.specs.Big.{number}
+use Rattle.access.specs.Lookup.{key_of, halving}
+use Rattle.access.proofs.halve.Given as goal
+
+abbrev pub invariant-loop-lo : goal.invariant-loop-lo
+invariant-loop-lo l = (l.hi ≤ l.to) × (halving (key_of (length l.x) l.ids) (number l.x) l.from l.to ≡ halving (key_of (length l.x) l.ids) (number l.x) l.lo l.hi)
+
+abbrev pub decreases-loop-lo : goal.decreases-loop-lo
+decreases-loop-lo l = l.hi - l.lo

@@ -1,0 +1,10 @@
+-- `exports::single::jampreso_file_step` meets its contract: the image of the step, and its phase stands for the next (`stepped`).
+use mathlib.Core.Path.{ap, ◌∙◌}
+use Rattle.flat.specs.Images.{flat_stepped}
+use Rattle.flat.proofs.Backs.{stepped}
+use Rattle.exports.proofs.single.jampreso_file_step.Goals as goal
+
+pub returns : goal.returns
+returns c =
+    rw (← c.file_of.ensures, ← c.phase_of.ensures.is)
+    (stepped _ (c.stepped_flat.ensures ∙ ap flat_stepped c.step_at.ensures.is))

@@ -1,0 +1,34 @@
+-- `marks::entry_at` meets its contract: a question that the rule passes has its parts in the file, and the entry's rule is asked of them (`asked`).
+use mathlib.Core.Path.{◌≡◌, ap, ◌∙◌}
+use native.Mathlib.Omega.{arith}
+use Rattle.types.proofs.Saying.{answers}
+use Rattle.fit.specs.Fits.{fan_part, ids_part, rows_part}
+use Rattle.fit.proofs.Fitting.{Answered, answered}
+use Rattle.rules.specs.Rules.{entry_in}
+use Rattle.access.specs.declared.Asking.TheVariants.{Refused}
+use Rattle.marks.proofs.Ways.{entry_out, entry_bad, entry_fine, entry_cut}
+use Rattle.marks.proofs.entry_at.Goals as goal
+
+-- the question passes, and k is what the entry's rule says of the file's own parts
+asked : (c : goal.After-entry_in-k)
+    → ( let a = c.args in
+    Answered a.s.now a.f a.f.commits a.pos.0
+    × (c.entry_in-k.result ≡ entry_in a.f.width (fan_part a.s.now a.f) (ids_part a.s.now a.f) (rows_part a.s.now a.f) a.pos.0))
+asked c =
+    let k = answered _ _ _ _ c.ask-m.ensures c.if-m-gt0.false in
+    (k, c.entry_in-k.ensures ∙ entry_cut _ _ _ _ k c.part-fan.ensures c.part-ids.ensures c.part-rows.ensures)
+
+pub returns-then-m-gt0 : goal.returns-then-m-gt0
+returns-then-m-gt0 c = answers (ap Refused c.at.ensures ∙ entry_out _ _ _ c.ask-m.ensures c.if-m-gt0.true)
+
+pub overflow_add-w : goal.overflow_add-w
+overflow_add-w c =
+    omega (arith, (answered _ _ _ _ c.ask-m.ensures c.if-m-gt0.false).fits)
+
+pub returns-then-k-gt0 : goal.returns-then-k-gt0
+returns-then-k-gt0 c =
+    let k = asked c.before.before.before in
+    answers (ap Refused c.at-then-k-gt0.ensures ∙ entry_bad _ _ _ k.0 k.1 c.if-k-gt0.true)
+
+pub returns : goal.returns
+returns c = answers (let k = asked c.before in entry_fine _ _ _ k.0 k.1 c.if-k-gt0.false)

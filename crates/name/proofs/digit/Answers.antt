@@ -1,0 +1,25 @@
+-- `name::digit` meets its contract: each return is the row of the table that its branch names.
+use native.Mathlib.Omega.{arith}
+use Rattle.words.proofs.Rows.{rows}
+use Rattle.name.proofs.digit.Goals as goal
+
+pub returns-then-b-lt48 : goal.returns-then-b-lt48
+returns-then-b-lt48 c = (search rows depth 20, omega arith)
+
+pub returns-then-b-lt58 : goal.returns-then-b-lt58
+returns-then-b-lt58 c = (search rows depth 20, omega arith)
+
+pub returns-then-b-lt65 : goal.returns-then-b-lt65
+returns-then-b-lt65 c = (search rows depth 20, omega arith)
+
+pub returns-then-b-lt71 : goal.returns-then-b-lt71
+returns-then-b-lt71 c = (search rows depth 20, omega arith)
+
+pub returns-then-b-lt97 : goal.returns-then-b-lt97
+returns-then-b-lt97 c = (search rows depth 20, omega arith)
+
+pub returns-then-b-lt103 : goal.returns-then-b-lt103
+returns-then-b-lt103 c = (search rows depth 20, omega arith)
+
+pub returns : goal.returns
+returns c = (search rows depth 20, omega arith)

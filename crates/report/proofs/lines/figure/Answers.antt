@@ -1,0 +1,12 @@
+-- `report::lines::figure` meets its contract: a space, then a number of at most 20 digits.
+use native.Mathlib.Omega.{arith}
+use Rattle.text.proofs.Decimal.{dec_length}
+use Rattle.report.proofs.Putting.{puts, ◌then◌}
+use borrow.Author.Rules.{rules}
+use Rattle.report.proofs.lines.figure.Goals as goal
+
+pub returns : goal.returns
+returns c =
+    let w = c.word-next.ensures in
+    let few = dec_length c.args.n (search rules) in
+    w then puts 20 _ _ _ (omega (arith, w.place, w.size)) few c.number.ensures.0 c.number.ensures.1

@@ -1,0 +1,8 @@
+-- `report::lines::word` meets its contract: `put` writes the whole text, for there is room.
+use native.Mathlib.Nat.{le_refl}
+use Rattle.report.proofs.Putting.{puts}
+use Rattle.report.proofs.lines.word.Goals as goal
+
+pub returns : goal.returns
+returns c =
+    puts _ _ _ _ c.requires (le_refl _) c.put.ensures.0 c.put.ensures.1

@@ -1,0 +1,18 @@
+-- `report::report` meets its contract: a readable input has its list in it, so that both parts can be taken; what was written is what is printed.
+use native.Mathlib.Omega.{arith}
+use Rattle.report.specs.Output.{line, others}
+use Rattle.report.proofs.Reading.{listed, taken, output_read, output_not, printed}
+use Rattle.report.proofs.report.Goals as goal
+
+pub slice_bounds-verify-count : goal.slice_bounds-verify-count
+slice_bounds-verify-count c = omega (arith, listed _ c.parts.ensures c.if-parts.true)
+
+pub returns-then-parts : goal.returns-then-parts
+returns-then-parts c =
+    let v = taken _ c.be32.ensures c.verify.ensures.0.is in
+    printed _ (output_read _ c.parts.ensures c.if-parts.true v) c.answer.ensures
+
+pub returns : goal.returns
+unfolding line others
+returns c =
+    printed _ (output_not _ c.parts.ensures c.if-parts.false) c.word.ensures
