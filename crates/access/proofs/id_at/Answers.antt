@@ -3,10 +3,11 @@
 use mathlib.Core.Path.{refl}
 use native.Mathlib.Omega.{arith}
 use Rattle.fit.proofs.Fitting.{Answered, answered, part_none, row_part, run_within}
+use Rattle.access.proofs.id_at.Goals.{Else-ask-gt0}
 use Rattle.access.proofs.id_at.Goals as goal
 
 -- the question was answered
-fine : (c : goal.Else-ask-gt0)
+fine : (c : Else-ask-gt0)
     → (let a = c.args in Answered a.s.now a.f a.f.commits a.pos.0)
 fine c = answered _ _ _ _ c.ask.ensures c.if-ask-gt0.false
 

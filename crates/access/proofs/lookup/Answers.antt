@@ -12,21 +12,22 @@ use Rattle.access.specs.declared.Found.{Found}
 use Rattle.fit.proofs.Fitting.{fitted, zero_of}
 use Rattle.access.proofs.Stores.{both}
 use Rattle.access.proofs.Looks.{look_misfit, look_width, look_out, look_search}
+use Rattle.access.proofs.lookup.Goals.{After-be32-to, After-fit-m, Else-m-gt0}
 use Rattle.access.proofs.lookup.Goals as goal
 
 -- a result that is the definition's is right: the bytes of both slices are bytes
-right : (c : goal.After-fit-m) {r : Found}
+right : (c : After-fit-m) {r : Found}
     → (let a = c.args in let l = a.s.now in let x = a.x.now in
     r ≡ lookup_of l a.f x → Answers found_said r (lookup_of l a.f x) × Right l a.f x r)
 right c e =
     also (both _ _ _ (λ i. (c.type_inv.s i).fits) (λ i. (c.type_inv.x i).fits) e)
 
 -- the record fits
-fits : (c : goal.Else-m-gt0) → (let a = c.args in Fitted a.s.now a.f)
+fits : (c : Else-m-gt0) → (let a = c.args in Fitted a.s.now a.f)
 fits c = fitted _ _ (zero_of c.fit-m.ensures c.if-m-gt0.false)
 
 -- the fan entry that was read
-entry : (c : goal.After-be32-to)
+entry : (c : After-be32-to)
     → ( let a = c.args in
     c.be32-to.result ≡ upper (fan_part a.s.now a.f) (get_or a.x.now 0 0))
 entry c = c.be32-to.ensures ∙ ap₂ upper c.oidf-fan.ensures.bytes c.wide-b.ensures.0

@@ -7,23 +7,24 @@ use Rattle.graph.specs.Chain.{opened, Listed}
 use Rattle.graph.proofs.Views.{list_listed, opened_list, opened_pass}
 use Rattle.audit.specs.Scans.{Tabled}
 use Rattle.audit.proofs.Filing.{no_files, verify_refused, verify_files}
+use Rattle.audit.proofs.audit.Goals.{After-survey-t, Else-m-gt0, Else-q-gt0}
 use Rattle.audit.proofs.audit.Goals as goal
 
 -- the list is not refused
-listed : (c : goal.Else-m-gt0)
+listed : (c : Else-m-gt0)
     → (
     Listed 32 c.args.chain.now c.args.list.now (records_of 32 c.args.list.now))
 listed c = list_listed 32 _ _ c.check-m.ensures c.if-m-gt0.false
 
 -- the refusal of the pass is that of the opening
-goes : (c : goal.After-survey-t)
+goes : (c : After-survey-t)
     → (
     c.survey-t.result.refusal ≡ opened 32 c.args.chain.now c.args.list.now)
 goes c =
     opened_pass 32 _ _ c.check-m.ensures c.if-m-gt0.false c.survey-t.ensures.refusal
 
 -- the table is right
-right : (c : goal.Else-q-gt0)
+right : (c : Else-q-gt0)
     → (
     Tabled 32 c.args.chain.now c.args.list.now c.survey-t.result.table)
 right c = c.survey-t.ensures.tables (omega arith)

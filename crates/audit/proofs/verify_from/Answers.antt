@@ -9,15 +9,16 @@ use Rattle.graph.proofs.Passing.{few_positions, open_is, part_is}
 use Rattle.audit.specs.Scans.{start_in, ScannedAs}
 use Rattle.audit.proofs.Tabling.{part_by_lem, row_room}
 use Rattle.audit.proofs.Filing.{table_length, no_refusal, filing_begins, filing_head, filing_commit, filing_next, filing_ends}
+use Rattle.audit.proofs.verify_from.Goals.{After-loop-i, After-open, After-part-s, After-scan-r, In-loop-i}
 use Rattle.audit.proofs.verify_from.Goals as goal
 
 -- file i is there; its row is in the table, and says how long it is
-here : (c : goal.In-loop-i)
+here : (c : In-loop-i)
     → ( c.loop-i.i < records_of c.args.z c.args.list.now)
 here c =
     omega (arith, c.loop-i-test.true, c.requires.1.0)
 
-row : (c : goal.In-loop-i)
+row : (c : In-loop-i)
     → ( let t = c.args.table.now in let i = c.loop-i.i in
     (i * 4 + 5 < length t) × (start_in t i ≤ get_or t (i * 4 + 4) 0) × (i + 1 ≤ 256))
 row c =
@@ -25,20 +26,20 @@ row c =
     (row_room _ _ _ p _ (here c), omega (arith, table_length _ _ _ p _ (here c)), omega (arith, here c, p.listed.few))
 
 -- what was cut out is that file, and how it opens
-cut : (c : goal.After-part-s)
+cut : (c : After-part-s)
     → (
     c.part-s.result.now ≡ part_at c.args.z c.args.chain.now c.args.list.now c.loop-i.i)
 cut c =
     let p = c.requires.0 in
     part_is _ p.listed _ (here c.before.before.before) (p.start _ (omega (arith, here c.before.before.before))) (omega (arith, table_length _ _ _ p _ (here c.before.before.before))) _ c.part-s.ensures
 
-file_i : (c : goal.After-open) {v : Opening} → c.«open».result ≡ v
+file_i : (c : After-open) {v : Opening} → c.«open».result ≡ v
     → (
     open_at c.args.z c.args.chain.now c.args.list.now c.loop-i.i ≡ v)
 file_i c e = open_is _ _ _ _ (cut c.before) c.«open».ensures.is e
 
 -- its commits were tried
-scanned : (c : goal.After-scan-r)
+scanned : (c : After-scan-r)
     → (
     ScannedAs c.args.z c.args.chain.now c.args.list.now c.loop-i.i c.scan-r.result)
 scanned c =
@@ -52,7 +53,7 @@ ended c =
     file.before.before.before.before.before.before
 
 -- the row behind the last has the number of commits
-last : (c : goal.After-loop-i)
+last : (c : After-loop-i)
     → (
     (c.args.n ≤ records_of c.args.z c.args.list.now) × (c.args.n * 4 + 1 < length c.args.table.now))
 last c =

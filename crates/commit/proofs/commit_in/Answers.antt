@@ -7,10 +7,11 @@ use Rattle.types.proofs.Saying.{answers}
 use Rattle.commit.specs.declared.Asked.TheVariants.{Commit as Is, Refused}
 use Rattle.fit.proofs.Fitting.{zero_of}
 use Rattle.commit.proofs.Words.{row_there, commit_out, commit_in_lem}
+use Rattle.commit.proofs.commit_in.Goals.{Else-m-gt0}
 use Rattle.commit.proofs.commit_in.Goals as goal
 
 -- the row is there
-there : (c : goal.Else-m-gt0)
+there : (c : Else-m-gt0)
     → (let a = c.args in a.pos.0 * (a.w + 16) + (a.w + 16) ≤ length a.cdat.now)
 there c = row_there _ _ _ (zero_of c.row_rule-m.ensures c.if-m-gt0.false)
 

@@ -6,10 +6,11 @@ use native.Mathlib.Omega.{arith}
 use lib.ListN.{length}
 use Rattle.commit.specs.Commits.{commit_of}
 use Rattle.commit.proofs.Words.{fields_room}
+use Rattle.commit.proofs.row_at.Goals.{After-cdat}
 use Rattle.commit.proofs.row_at.Goals as goal
 
 -- the row's fields lie in the part
-room : (c : goal.After-cdat)
+room : (c : After-cdat)
     → c.args.i * (c.args.f.width + 16) + c.args.f.width + 16
     ≤ length c.cdat.result.now
 room c = fields_room _ c.requires.0 c.cdat.ensures.bytes c.requires.1

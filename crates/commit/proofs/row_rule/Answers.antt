@@ -6,10 +6,11 @@ use borrow.Author.Tests.{not-false}
 use Rattle.words.proofs.Rows.{rows}
 use Rattle.types.proofs.Widths.{width_bounds, small_rows}
 use Rattle.commit.specs.Commits.{row_rule}
+use Rattle.commit.proofs.row_rule.Goals.{Else-not-known}
 use Rattle.commit.proofs.row_rule.Goals as goal
 
 -- the width is known: so the row's place fits
-small : (c : goal.Else-not-known) → (let a = c.args in (a.i * (a.w + 16) < 2 ^ 63) × (a.w ≤ 32))
+small : (c : Else-not-known) → (let a = c.args in (a.i * (a.w + 16) < 2 ^ 63) × (a.w ≤ 32))
 small c =
     let k = sym c.known.ensures ∙ not-false _ c.if-not-known.false in
     (small_rows _ k _ (omega arith), (width_bounds _ k).1)

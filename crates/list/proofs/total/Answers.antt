@@ -12,14 +12,14 @@ loop-k-init c = (omega arith, refl, omega arith)
 
 pub overflow_add-sum : goal.overflow_add-sum
 overflow_add-sum c =
-    omega (arith, c.length_at.type-inv, c.loop-k.invariant, c.requires)
+    omega (arith, c.length_at.type_inv, c.loop-k.invariant, c.requires)
 
 pub loop-k-preserved : goal.loop-k-preserved
 loop-k-preserved c =
     let l = c.loop-k in (
       omega arith,
       omega (arith, before_next (length_at c.args.z c.args.list.now) l.k, c.length_at.ensures),
-      omega (arith, c.length_at.type-inv, l.invariant),
+      omega (arith, c.length_at.type_inv, l.invariant),
     )
 
 pub returns : goal.returns

@@ -7,10 +7,11 @@ use Rattle.fit.proofs.Fitting.{Answered, answered}
 use Rattle.rules.specs.Rules.{entry_in}
 use Rattle.access.specs.declared.Asking.TheVariants.{Refused}
 use Rattle.marks.proofs.Ways.{entry_out, entry_bad, entry_fine, entry_cut}
+use Rattle.marks.proofs.entry_at.Goals.{After-entry_in-k}
 use Rattle.marks.proofs.entry_at.Goals as goal
 
 -- the question passes, and k is what the entry's rule says of the file's own parts
-asked : (c : goal.After-entry_in-k)
+asked : (c : After-entry_in-k)
     → ( let a = c.args in
     Answered a.s.now a.f a.f.commits a.pos.0
     × (c.entry_in-k.result ≡ entry_in a.f.width (fan_part a.s.now a.f) (ids_part a.s.now a.f) (rows_part a.s.now a.f) a.pos.0))

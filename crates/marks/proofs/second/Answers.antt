@@ -8,10 +8,11 @@ use Rattle.commit.specs.Commits.{row_of}
 use Rattle.commit.proofs.Words.{commit_given, commit_barred}
 use Rattle.marks.specs.Marks.{second_at}
 use Rattle.marks.proofs.Reading.{field_fits, step_word, second_place}
+use Rattle.marks.proofs.second.Goals.{In-Commit-2}
 use Rattle.marks.proofs.second.Goals as goal
 
 -- the commit was read: its question passes, and it is the row
-row : (c : goal.In-Commit-2)
+row : (c : In-Commit-2)
     → (let a = c.args in
     Answered a.s.now a.f a.f.commits a.pos.0 × (c.in-Commit.c ≡ row_of a.s.now a.f a.pos.0))
 row c = commit_given _ _ _ c.commit_at.ensures.is c.in-Commit.is

@@ -5,11 +5,12 @@ use lib.ListN.{length-set}
 use Rattle.words.proofs.Fills.{grown, whole}
 use Rattle.name.specs.Names.{hash_of}
 use Rattle.name.proofs.Hex.{pair_low, pair_high}
+use Rattle.name.proofs.claimed.Goals.{After-digit-b}
 use borrow.Author.Rules.{rules}
 use Rattle.name.proofs.claimed.Goals as goal
 
 -- both digits are below 16
-digits : (c : goal.After-digit-b) → (c.digit-a.result < 16) × (c.digit-b.result < 16)
+digits : (c : After-digit-b) → (c.digit-a.result < 16) × (c.digit-b.result < 16)
 digits c =
     let hexed = c.requires in
     let i = c.loop-i.i in (

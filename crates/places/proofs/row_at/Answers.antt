@@ -3,10 +3,11 @@ use Prim.Native.Nat.{◌+◌, ◌*◌, ◌≤◌}
 use native.Mathlib.Omega.{arith}
 use lib.ListN.{length}
 use Rattle.places.proofs.Placing.{part_refused, part_fine, row_fits}
+use Rattle.places.proofs.row_at.Goals.{After-struct_known-1}
 use Rattle.places.proofs.row_at.Goals as goal
 
 -- the row lies in the bytes
-room : (c : goal.After-struct_known-1)
+room : (c : After-struct_known-1)
     → (let a = c.args in
     a.from + (a.i * (a.f.width + a.more) + (a.f.width + a.more)) ≤ length a.s.now)
 room c =

@@ -7,13 +7,14 @@ use borrow.Author.Tests.{not-true, not-false}
 use Rattle.types.specs.Width.{known}
 use Rattle.types.proofs.Widths.{width_bounds, small_ids}
 use Rattle.rules.proofs.Entries.{entry_strange, entry_fan, entry_ids, entry_rows, entry_id, entry_bucket, entry_tree}
+use Rattle.rules.proofs.entry_in.Goals.{Else-fan-lt1024, Else-not-known}
 use Rattle.rules.proofs.entry_in.Goals as goal
 
 -- the width is known, and the fan is whole
-wide : (c : goal.Else-not-known) → known c.args.w ≡ true
+wide : (c : Else-not-known) → known c.args.w ≡ true
 wide c = sym c.known.ensures ∙ not-false _ c.if-not-known.false
 
-small : (c : goal.Else-fan-lt1024) → (
+small : (c : Else-fan-lt1024) → (
     (c.args.c * c.args.w < 2 ^ 63) × ((20 ≤ c.args.w) × (c.args.w ≤ 32)))
 small c = (small_ids _ (wide c.before) _ (omega arith), width_bounds _ (wide c.before))
 

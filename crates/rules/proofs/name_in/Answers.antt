@@ -5,11 +5,12 @@ use Rattle.types.specs.Width.{known}
 use Rattle.words.proofs.Rows.{rows}
 use Rattle.rules.specs.Rules.{name_rule, name_in, trailing}
 use Rattle.rules.proofs.Trailers.{name_out, name_there}
+use Rattle.rules.proofs.name_in.Goals.{Else-count-k}
 use borrow.Author.Rules.{rules}
 use Rattle.rules.proofs.name_in.Goals as goal
 
 -- the record is in the list: what the trailer's rules say is the answer
-listed : (c : goal.Else-count-k) {r : ℕ}
+listed : (c : Else-count-k) {r : ℕ}
     → (let a = c.args in
     r ≡ trailing a.w a.s.now (name_rule a.w a.z a.list.now a.k a.s.now)
     → r ≡ name_in a.w a.z a.list.now a.k a.s.now)

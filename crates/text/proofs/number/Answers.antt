@@ -19,4 +19,4 @@ slice_bounds-put-end c = fill_size _ c.loop-rest.invariant
 pub returns : goal.returns
 returns c =
     let e = fill_ends _ c.loop-rest.invariant (search rules) c.digit-2.ensures in
-    (c.put.ensures.0 ∙ ap (after _ _) e, c.put.ensures.1 ∙ ap (written _ _) e)
+    record { place = c.put.ensures.place ∙ ap (after _ _) e; holds = c.put.ensures.holds ∙ ap (written _ _) e }

@@ -5,10 +5,14 @@ use borrow.Author.Rules.{rules}
 use Rattle.text.proofs.put.Goals as goal
 
 pub returns-then-out-at : goal.returns-then-out-at
-returns-then-out-at c = put_full _ _ _ (omega arith)
+returns-then-out-at c =
+    let p = put_full c.args.out.now c.args.at c.args.s.now (omega arith) in
+    record { place = p.0; holds = p.1 }
 
 pub returns-then-out-at-2 : goal.returns-then-out-at-2
-returns-then-out-at-2 c = put_full _ _ _ (omega arith)
+returns-then-out-at-2 c =
+    let p = put_full c.args.out.now c.args.at c.args.s.now (omega arith) in
+    record { place = p.0; holds = p.1 }
 
 pub loop-i-init : goal.loop-i-init
 loop-i-init c = put_begins (omega arith)
@@ -17,4 +21,6 @@ pub loop-i-preserved : goal.loop-i-preserved
 loop-i-preserved c = put_next c.loop-i.invariant (search rules)
 
 pub returns : goal.returns
-returns c = put_ends c.loop-i.invariant (search rules)
+returns c =
+    let p = put_ends c.loop-i.invariant (omega arith) in
+    record { place = p.0; holds = p.1 }

@@ -11,10 +11,11 @@ use Rattle.ask.specs.Theorems.{Right}
 use Rattle.ask.specs.declared.lookup.Found.{Found}
 use Rattle.ask.proofs.Looking.{find_refused, find_width, find_at_lem, find_absent}
 use Rattle.ask.proofs.Exactly.{promised}
+use Rattle.ask.proofs.lookup.find.Goals.{After-check-m, After-look-v}
 use Rattle.ask.proofs.lookup.find.Goals as goal
 
 -- an answer of the definition is right, since the chain and the id are bytes
-right : (c : goal.After-check-m) {r : Found}
+right : (c : After-check-m) {r : Found}
     → (let a = c.args in
     r ≡ lookup_of 32 a.chain.now a.list.now a.x.now
     → Answers found_said r (lookup_of 32 a.chain.now a.list.now a.x.now) × Right 32 a.chain.now a.list.now a.x.now r)
@@ -23,7 +24,7 @@ right c e =
     (promised 32 _ _ _ (λ i. (c.type_inv.chain i).fits) (λ i. (c.type_inv.x i).fits) e)
 
 -- where the list is not refused, the files' refusal is the chain's
-files : (c : goal.After-look-v)
+files : (c : After-look-v)
     → (let a = c.args in
     c.look-v.result.refusal ≡ opened 32 a.chain.now a.list.now)
 files c = opened_pass 32 _ _ c.check-m.ensures c.if-m-gt0.false c.look-v.ensures.refusal

@@ -6,16 +6,17 @@ use Rattle.file.specs.declared.Opening.{Opening}
 use Rattle.graph.specs.Chain.{part_at, open_at}
 use Rattle.graph.proofs.Passing.{open_is, part_is, along_room}
 use Rattle.ask.proofs.Looking.{look_begins, look_refused, look_next, look_fits, look_ends}
+use Rattle.ask.proofs.lookup.look.Goals.{After-open-o, After-part-s}
 use Rattle.ask.proofs.lookup.look.Goals as goal
 
 -- what was cut in this c.before.before is file k, and so is what was opened
-part_k : (c : goal.After-part-s)
+part_k : (c : After-part-s)
     → (
     c.part-s.result.now ≡ part_at c.args.z c.args.chain.now c.args.list.now c.loop-k.k)
 part_k c =
     part_is _ c.requires _ c.loop-k-test.true c.loop-k.invariant.along.place c.length_at.ensures _ c.part-s.ensures
 
-file_k : (c : goal.After-open-o) {v : Opening} → c.open-o.result ≡ v
+file_k : (c : After-open-o) {v : Opening} → c.open-o.result ≡ v
     → (
     open_at c.args.z c.args.chain.now c.args.list.now c.loop-k.k ≡ v)
 file_k c e = open_is _ _ _ _ (part_k c.before) c.open-o.ensures.is e

@@ -10,10 +10,11 @@ use Rattle.tries.specs.Tries.{parts_of}
 use Rattle.graph.specs.Chain.{count_at, first_at}
 use Rattle.audit.specs.Scans.{Tabled, Home}
 use Rattle.audit.proofs.Trying.{CommitTold, commit_told, try_begins, try_stops, try_small, try_next, try_ends, try_few}
+use Rattle.audit.proofs.commits.scan.Goals.{After-attempt-t, After-part-ids, In-loop-k}
 use Rattle.audit.proofs.commits.scan.Goals as goal
 
 -- there is a commit at hand, and few come before it
-module _ (turn : goal.In-loop-k) where
+module _ (turn : In-loop-k) where
   abbrev home : Home (start (cuts turn)).args.chain.now (start (cuts turn)).args.table.now (start (cuts turn)).args.i
   home = (start (cuts turn)).pre.0.home
 
@@ -28,7 +29,7 @@ abbrev cuts : tie.In-loop invariant_loop decreases_loop → tie.After-missing in
 cuts turn = turn.before.before.before
 
 -- how commit k went
-told : (c : goal.After-attempt-t) (z : ℕ) (l : List ℕ)
+told : (c : After-attempt-t) (z : ℕ) (l : List ℕ)
     → ( let a = (start (cuts c.before.before)).args in
     Tabled z a.chain.now l a.table.now → a.i < records_of z l
     → CommitTold z a.chain.now l a.i c.loop-k.k c.attempt-t.result)
@@ -38,7 +39,7 @@ told c z l p h =
     (c.attempt-t.ensures z l p h)
 
 -- the width is narrow
-narrow : (c : goal.After-part-ids) → c.args.f.width < 1000
+narrow : (c : After-part-ids) → c.args.f.width < 1000
 narrow c = (opened true _ c.requires.1.1).fitted.narrow
 
 pub overflow_add-w : goal.overflow_add-w

@@ -7,16 +7,17 @@ use Rattle.fit.proofs.Fitting.{run_within}
 use Rattle.audit.specs.Scans.{alien_by}
 use Rattle.audit.proofs.Tabling.{next_start}
 use Rattle.audit.proofs.Heading.{alien_by_lem}
+use Rattle.audit.proofs.heads.bad_base.Goals.{After-same, In-loop-j}
 use Rattle.audit.proofs.heads.bad_base.Goals as goal
 
 -- base j lies in the ids
-here : (t : goal.In-loop-j)
+here : (t : In-loop-j)
     → (
     t.loop-j.j * t.args.w + t.args.w ≤ t.args.i * t.args.w)
 here t = run_within _ _ _ t.loop-j-test.true
 
 -- what was compared
-alien : (c : goal.After-same)
+alien : (c : After-same)
     → ( let a = c.args in
     not c.same.result ≡ alien_by a.chain.now a.table.now a.w a.ids.now c.loop-j.j)
 alien c =

@@ -8,17 +8,18 @@ use Rattle.graph.specs.Chain.{part_at}
 use Rattle.audit.specs.Rules.{bad_base}
 use Rattle.audit.proofs.Tabling.{is_open, row_room}
 use Rattle.audit.proofs.Heading.{bases_long, reaches, base_told, head_bases, head_base, head_sum, head_name}
+use Rattle.audit.proofs.heads.head.Goals.{After-bad_base-j, After-part-ids}
 use Rattle.audit.proofs.heads.head.Goals as goal
 
 -- the base ids, and the first that is alien
-bases : (c : goal.After-part-ids)
+bases : (c : After-part-ids)
     → (let a = c.args in
     c.part-ids.result.now ≡ base_part (part_at a.z a.chain.now a.list.now a.i) a.f)
 bases c =
     let q = c.requires.1.2 in
     (records_in _ _ _ _ _ (rw q (is_open _ _ _ _ c.requires.1.1).fitted.base) c.part-ids.ensures).bytes ∙ rw q
 
-told : (c : goal.After-bad_base-j)
+told : (c : After-bad_base-j)
     → (let a = c.args in
     c.bad_base-j.result ≡ bad_base a.z a.chain.now a.list.now a.i)
 told c =

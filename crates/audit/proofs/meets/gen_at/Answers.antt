@@ -6,10 +6,11 @@ use lib.ListN.{length, get_or}
 use Rattle.list.specs.List.{records_of}
 use Rattle.audit.specs.Scans.{first_in, wide_in}
 use Rattle.audit.proofs.Tabling.{from_none, row_room, next_first, gen_room, gen_read}
+use Rattle.audit.proofs.meets.gen_at.Goals.{After-file_of-i}
 use Rattle.audit.proofs.meets.gen_at.Goals as goal
 
 -- the row of the file that was found, the first positions around g, and the place that is read
-here : (c : goal.After-file_of-i)
+here : (c : After-file_of-i)
     → (let a = c.args in let t = a.table.now in let i = c.file_of-i.result in
     (i * 4 + 5 < length t) × (first_in t i ≤ a.g) × (first_in t i ≤ get_or t (i * 4 + 5) 0)
     × ((a.g - first_in t i) * (wide_in t i + 16) + (wide_in t i + 16) ≤ 1073741824))

@@ -6,22 +6,23 @@ use Rattle.file.specs.declared.Opening.{Opening}
 use Rattle.graph.specs.Chain.{part_at, open_at}
 use Rattle.graph.proofs.Passing.{open_is, part_is}
 use Rattle.audit.proofs.Tabling.{tabling_begins, tabling_refused, tabling_ends, tabling_room, tabling_next}
+use Rattle.audit.proofs.tables.survey.Goals.{After-open, After-part-s, In-Open}
 use Rattle.audit.proofs.tables.survey.Goals as goal
 
 -- what was cut out is file k, and how it opens
-cut : (c : goal.After-part-s)
+cut : (c : After-part-s)
     → (
     c.part-s.result.now ≡ part_at c.args.z c.args.chain.now c.args.list.now c.loop-k.k)
 cut c =
     part_is _ c.requires.1 _ c.loop-k-test.true c.loop-k.invariant.along.place c.length_at.ensures _ c.part-s.ensures
 
-file_k : (c : goal.After-open) {v : Opening} → c.«open».result ≡ v
+file_k : (c : After-open) {v : Opening} → c.«open».result ≡ v
     → (
     open_at c.args.z c.args.chain.now c.args.list.now c.loop-k.k ≡ v)
 file_k c e = open_is _ _ _ _ (cut c.before) c.«open».ensures.is e
 
 -- its sums fit, and so do the places in the table
-room : (c : goal.In-Open)
+room : (c : In-Open)
     → ( let o = c.loop-k in
     (o.sum + c.in-Open.f.commits ≤ 1073741824) × (o.at + length c.part-s.result.now ≤ 1073741824)
     × (o.at + c.in-Open.f.cdat ≤ 1073741824) × (o.k + 1 ≤ 256))

@@ -8,13 +8,14 @@ use Rattle.chunk.specs.Index.{index_rule}
 use Rattle.chunk.proofs.Sound.{indexed}
 use Rattle.file.specs.Table.{width, opening_by}
 use Rattle.file.proofs.Stages.{stages, stage_no, stage_none, stage_as, Headed, headed, width_known}
+use Rattle.file.proofs.init.open_by.Goals.{Else-h-gt0, Else-i-gt0}
 use Rattle.file.proofs.init.open_by.Goals as goal
 
 -- once 1 to 5 refuse nothing, and once 6 to 9 do not
-top : (c : goal.Else-h-gt0) → Headed c.args.s.now
+top : (c : Else-h-gt0) → Headed c.args.s.now
 top c = headed _ (omega arith)
 
-none : (c : goal.Else-i-gt0) → index_rule c.args.s.now ≡ 0
+none : (c : Else-i-gt0) → index_rule c.args.s.now ≡ 0
 none c =
     let e = ap (λ (i : Refusal). i.number) c.check-i.ensures in
     omega arith

@@ -5,10 +5,11 @@ use lib.ListN.{length}
 use Rattle.file.specs.declared.Opening.{Opening}
 use Rattle.graph.specs.Chain.{open_at}
 use Rattle.graph.proofs.Passing.{open_is, pass_begins, pass_refused, pass_next, along_room, pass_ends}
+use Rattle.graph.proofs.survey.pass.Goals.{After-open-o}
 use Rattle.graph.proofs.survey.pass.Goals as goal
 
 -- what was opened in this c.before.before is file k
-file_k : (c : goal.After-open-o) {v : Opening} → c.open-o.result ≡ v
+file_k : (c : After-open-o) {v : Opening} → c.open-o.result ≡ v
     → (
     open_at c.args.z c.args.chain.now c.args.list.now c.loop-k.k ≡ v)
 file_k c e = open_is _ _ _ _ c.file_at-s.ensures c.open-o.ensures.is e

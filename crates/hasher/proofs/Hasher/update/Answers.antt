@@ -6,11 +6,12 @@ use Rattle.hasher.specs.Feed.{rest, padded, opened, next_block, next_words, next
 use Rattle.hasher.specs.State.{updated}
 use Rattle.hasher.proofs.Blocks.{tail, small, small_rest, fills_up, rest_fills}
 use Rattle.hasher.proofs.Laws.{same}
+use Rattle.hasher.proofs.Hasher.update.Goals.{Start}
 use borrow.Author.Rules.{rules}
 use Rattle.hasher.proofs.Hasher.update.Goals as goal
 
 -- a hasher's block has its 64 bytes
-whole : (c : goal.Start) → length c.args.self.block ≡ 64
+whole : (c : Start) → length c.args.self.block ≡ 64
 whole c = search rules
 
 pub returns-then-s-room : goal.returns-then-s-room

@@ -8,10 +8,11 @@ use Rattle.parents.specs.declared.Total.TheVariants.{Refused}
 use Rattle.commit.proofs.Words.{commit_given, commit_barred}
 use Rattle.parents.proofs.Walking.{total_misfit, total_plain}
 use Rattle.parents.proofs.Filling.{list_short, list_full, list_whole}
+use Rattle.parents.proofs.listing.list_at.Goals.{After-count_in}
 use Rattle.parents.proofs.listing.list_at.Goals as goal
 
 -- what was counted is the count of the file's commit
-counted : (c : goal.After-count_in) {v : Counted} → c.count_in.result ≡ v
+counted : (c : After-count_in) {v : Counted} → c.count_in.result ≡ v
     → (
     total_by c.args.pos.0 v ≡ total_of c.args.s.now c.args.f c.args.pos.0)
 counted c e =

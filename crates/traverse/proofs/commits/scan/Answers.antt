@@ -5,6 +5,7 @@ use native.Mathlib.Omega.{arith}
 use Rattle.tries.specs.Tries.{Parts, Told}
 use Rattle.traverse.specs.Traversal.{commit_rule, parents_in, gen_in}
 use Rattle.traverse.proofs.Scanning.{tried_is, scan_begins, scan_stops, scan_small, scan_next, scan_ends}
+use Rattle.traverse.proofs.commits.scan.Goals.{After-attempt-t, In-loop-c}
 use Rattle.traverse.proofs.commits.scan.Goals as goal
 
 -- the parts, at a turn of the loop
@@ -14,14 +15,14 @@ parts t =
     record { width = a.w; fan = a.fan.now; ids = a.ids.now; rows = a.rows.now; edge = a.edge.now; there = a.there }
 
 -- how commit c went
-tried : (t : goal.After-attempt-t)
+tried : (t : After-attempt-t)
     → ( let q = parts t.before.before in let i = t.loop-c.c in
     Told (commit_rule q i) (parents_in q i) (gen_in q i) t.attempt-t.result)
 tried t =
     tried_is _ t.requires t.loop-c-test.true t.row_in-a.ensures.is t.attempt-t.ensures
 
 -- a turn's end
-left : (t : goal.In-loop-c) → ( t.loop-c.c < t.args.n)
+left : (t : In-loop-c) → ( t.loop-c.c < t.args.n)
 left t = t.loop-c-test.true
 
 pub loop-c-init : goal.loop-c-init
