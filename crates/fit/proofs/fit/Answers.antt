@@ -1,21 +1,20 @@
 -- `fit::fit` meets its contract: each return is the row of the table whose test it is, and no row before it applies.
 use Prim.Native.Nat.{ℕ}
 use mathlib.Core.Bool.{Bool, true, false, not}
-use mathlib.Core.Path.{◌≡◌, refl, sym, ◌∙◌}
+use mathlib.Core.Path.{◌≡◌, refl, sym, ap, ◌∙◌}
 use native.Mathlib.Omega.{arith}
-use borrow.Author.Tests.{not-false}
 use Rattle.words.specs.First.{◌if◌else◌}
-use Rattle.words.proofs.Rows.{rows, hit, miss, not_via}
+use Rattle.words.proofs.Rows.{rows, hit, miss}
 use Rattle.types.proofs.Widths.{width_bounds}
 use Rattle.fit.specs.Fits.{fit_rule}
 use Rattle.fit.proofs.fit.Goals as goal
 
 -- by what a test handed back: the row applies, or those after it answer
-here : {b t : Bool} (rest : ℕ) → t ≡ b → not t ≡ true → 40 ≡ (40 if not b else rest)
-here rest e h = hit 40 _ rest (not_via _ _ true e h)
+here : {b t : Bool} (rest : ℕ) → t ≡ b → t ≡ false → 40 ≡ (40 if not b else rest)
+here rest e h = hit 40 _ rest (ap not (sym e ∙ h))
 
-next : {b t : Bool} {r rest : ℕ} → t ≡ b → not t ≡ false → r ≡ rest → r ≡ (40 if not b else rest)
-next e h g = miss 40 _ _ _ (not_via _ _ false e h) g
+next : {b t : Bool} {r rest : ℕ} → t ≡ b → t ≡ true → r ≡ rest → r ≡ (40 if not b else rest)
+next e h g = miss 40 _ _ _ (ap not (sym e ∙ h)) g
 
 pub returns-then-not-known : goal.returns-then-not-known
 unfolding fit_rule
@@ -31,7 +30,7 @@ returns-then-not-room-2 c = search rows depth 30
 
 pub overflow_add-w : goal.overflow_add-w
 overflow_add-w c =
-    omega (arith, width_bounds c.args.f.width (sym c.known.ensures ∙ not-false _ c.if-not-known.false))
+    omega (arith, width_bounds c.args.f.width (sym c.known.ensures ∙ c.if-not-known.false))
 
 pub returns-then-not-room-3 : goal.returns-then-not-room-3
 unfolding fit_rule

@@ -26,8 +26,8 @@ returns c =
     let a = c.args in
     let l = a.s.now in
     let e = rw c.after.ensures at c.chunk_rules-k.ensures in
-    let q : a.x.oidf ≡ chunk_of l 0x4f494446 = ap (λ (x : Index). x.oidf) c.requires.1.0 in
-    let h : start_of a.x.oidf + size_of a.x.oidf ≤ length l = rw q (lies 0x4f494446 c.requires.0).inside in
+    let q : a.x.oidf ≡ chunk_of l 0x4f494446 = ap (λ (x : Index). x.oidf) c.requires.x_value.0 in
+    let h : start_of a.x.oidf + size_of a.x.oidf ≤ length l = rw q (lies 0x4f494446 c.requires.indexed).inside in
     let p : c.part-p.result.now ≡ part_of l a.x.oidf =
     cut_part _ _ a.x.oidf c.start.ensures c.size.ensures h c.part-p.ensures in
     let f = rw p at c.fan_open.ensures in

@@ -4,20 +4,19 @@ use mathlib.Core.Path.{◌≡◌, sym, ap}
 use native.Mathlib.Omega.{arith}
 use Rattle.types.proofs.Widths.{width_bounds}
 use Rattle.types.specs.declared.refusal.Refusal.{Refusal}
-use Rattle.chunk.specs.Index.{index_rule}
+use Prim.Native.Nat.{ℕ, ◌≤◌}
+use mathlib.Core.List.{List}
+use Rattle.types.specs.Refusals.{refusal}
+use Rattle.chunk.specs.Index.{index_rule, index_place}
 use Rattle.chunk.proofs.Sound.{indexed}
 use Rattle.file.specs.Table.{width, opening_by}
 use Rattle.file.proofs.Stages.{stages, stage_no, stage_none, stage_as, Headed, headed, width_known}
-use Rattle.file.proofs.init.open_by.Goals.{Else-h-gt0, Else-i-gt0}
 use Rattle.file.proofs.init.open_by.Goals as goal
 
--- once 1 to 5 refuse nothing, and once 6 to 9 do not
-top : (c : Else-h-gt0) → Headed c.args.s.now
-top c = headed _ (omega arith)
-
-none : (c : Else-i-gt0) → index_rule c.args.s.now ≡ 0
-none c =
-    let e = ap (λ (i : Refusal). i.number) c.check-i.ensures in
+-- once 6 to 9 refuse nothing
+none : (l : List ℕ) {r : Refusal} → r ≡ refusal (index_rule l) (index_place l) → r.number ≤ 0 → index_rule l ≡ 0
+none l e h =
+    let n = ap (λ (i : Refusal). i.number) e in
     omega arith
 
 pub returns-then-h-gt0 : goal.returns-then-h-gt0
@@ -32,17 +31,20 @@ returns-then-i-gt0 c =
 
 pub bounds-s-7 : goal.bounds-s-7
 bounds-s-7 c =
-    omega (arith, top c.before.before.before.before.before.before)
+    let top : Headed c.args.s.now = headed _ (omega arith) in omega arith
 
 pub chunks_open-requires : goal.chunks_open-requires
 chunks_open-requires c =
     let l = c.args.s.now in
     let w = width_bounds (width l) (width_known l) in
-    (indexed l (none c.before.before.before), (c.locate-x.ensures, omega arith, omega arith))
+    record {
+      indexed = indexed l (none l c.check-i.ensures c.if-i-gt0.false);
+      x_value = (c.locate-x.ensures, omega arith, omega arith);
+    }
 
 pub returns : goal.returns
 unfolding opening_by
 returns c =
     stage_no _ c.head-h.ensures c.if-h-gt0.false
-    (stage_none _ (sym (none c.before.before.before.before))
+    (stage_none _ (sym (none c.args.s.now c.check-i.ensures c.if-i-gt0.false))
     (rw (c.width_of.ensures, c.locate-x.ensures) at c.chunks_open.ensures))
