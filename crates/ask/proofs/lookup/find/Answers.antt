@@ -11,7 +11,7 @@ use Rattle.ask.specs.Theorems.{Right}
 use Rattle.ask.specs.declared.lookup.Found.{Found}
 use Rattle.ask.proofs.Looking.{find_refused, find_width, find_at_lem, find_absent}
 use Rattle.ask.proofs.Exactly.{promised}
-use Rattle.ask.proofs.lookup.find.Goals.{After-check-m, After-look-v}
+use Rattle.ask.proofs.lookup.find.Goals.{After-check-m}
 use Rattle.ask.proofs.lookup.find.Goals as goal
 
 -- an answer of the definition is right, since the chain and the id are bytes
@@ -22,12 +22,6 @@ right : (c : After-check-m) {r : Found}
 right c e =
     also
     (promised 32 _ _ _ (λ i. (c.type_inv.chain i).fits) (λ i. (c.type_inv.x i).fits) e)
-
--- where the list is not refused, the files' refusal is the chain's
-files : (c : After-look-v)
-    → (let a = c.args in
-    c.look-v.result.refusal ≡ opened 32 a.chain.now a.list.now)
-files c = opened_pass 32 _ _ c.check-m.ensures c.if-m-gt0.false c.look-v.ensures.refusal
 
 pub returns-then-m-gt0 : goal.returns-then-m-gt0
 returns-then-m-gt0 c =
@@ -45,19 +39,27 @@ look-v-requires c = list_listed 32 _ _ c.check-m.ensures c.if-m-gt0.false
 
 pub returns-then-q-gt0 : goal.returns-then-q-gt0
 returns-then-q-gt0 c =
-    right c.before.before.before.before.before.before.before (find_refused 32 _ _ _ (files c.before.before.before.before) c.if-q-gt0.true)
+    let files : (let a = c.args in c.look-v.result.refusal ≡ opened 32 a.chain.now a.list.now) =
+    opened_pass 32 _ _ c.check-m.ensures c.if-m-gt0.false c.look-v.ensures.refusal in
+    right c.before.before.before.before.before.before.before (find_refused 32 _ _ _ files) c.if-q-gt0.true)
 
 pub returns-then-x-ne20 : goal.returns-then-x-ne20
 returns-then-x-ne20 c =
+    let files : (let a = c.args in c.look-v.result.refusal ≡ opened 32 a.chain.now a.list.now) =
+    opened_pass 32 _ _ c.check-m.ensures c.if-m-gt0.false c.look-v.ensures.refusal in
     right c.before.before.before.before.before.before.before.before.before
-    (find_width 32 _ _ _ (files c.before.before.before.before.before.before) c.if-q-gt0.false c.if-x-ne20.true c.at.ensures)
+    (find_width 32 _ _ _ files) c.if-q-gt0.false c.if-x-ne20.true c.at.ensures)
 
 pub returns-then-hit : goal.returns-then-hit
 returns-then-hit c =
+    let files : (let a = c.args in c.look-v.result.refusal ≡ opened 32 a.chain.now a.list.now) =
+    opened_pass 32 _ _ c.check-m.ensures c.if-m-gt0.false c.look-v.ensures.refusal in
     right c.before.before.before.before.before.before.before.before.before
-    (find_at_lem 32 _ _ _ (files c.before.before.before.before.before.before) c.if-q-gt0.false c.if-x-ne20.false _ (c.look-v.ensures.answer (omega arith)) c.if-hit.true)
+    (find_at_lem 32 _ _ _ files) c.if-q-gt0.false c.if-x-ne20.false _ (c.look-v.ensures.answer (omega arith)) c.if-hit.true)
 
 pub returns : goal.returns
 returns c =
+    let files : (let a = c.args in c.look-v.result.refusal ≡ opened 32 a.chain.now a.list.now) =
+    opened_pass 32 _ _ c.check-m.ensures c.if-m-gt0.false c.look-v.ensures.refusal in
     right c.before.before.before.before.before.before.before.before.before
-    (find_absent 32 _ _ _ (files c.before.before.before.before.before.before) c.if-q-gt0.false c.if-x-ne20.false _ (c.look-v.ensures.answer (omega arith)) c.if-hit.false)
+    (find_absent 32 _ _ _ files) c.if-q-gt0.false c.if-x-ne20.false _ (c.look-v.ensures.answer (omega arith)) c.if-hit.false)
