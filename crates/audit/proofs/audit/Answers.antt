@@ -30,7 +30,7 @@ pub returns-then-q-gt0 : goal.returns-then-q-gt0
 returns-then-q-gt0 c =
     let goes : ( c.survey-t.result.refusal ≡ opened 32 c.args.chain.now c.args.list.now) =
     opened_pass 32 _ _ c.check-m.ensures c.if-m-gt0.false c.survey-t.ensures.refusal in
-    answers (c.refused-then-q-gt0.ensures ∙ verify_refused 32 _ _ goes) c.if-q-gt0.true)
+    answers (c.refused-then-q-gt0.ensures ∙ verify_refused 32 _ _ goes c.if-q-gt0.true)
 
 pub slice_bounds-verify_from-end : goal.slice_bounds-verify_from-end
 slice_bounds-verify_from-end c =
@@ -48,4 +48,4 @@ pub returns : goal.returns
 returns c =
     let goes : ( c.survey-t.result.refusal ≡ opened 32 c.args.chain.now c.args.list.now) =
     opened_pass 32 _ _ c.check-m.ensures c.if-m-gt0.false c.survey-t.ensures.refusal in
-    answers (verify_files 32 _ _ goes) c.if-q-gt0.false c.verify_from.ensures)
+    answers (verify_files 32 _ _ goes c.if-q-gt0.false c.verify_from.ensures)

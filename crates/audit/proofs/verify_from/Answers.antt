@@ -32,7 +32,7 @@ overflow_mul-at c =
     let here : ( c.loop-i.i < records_of c.args.z c.args.list.now) =
     omega (arith, c.loop-i-test.true, c.requires.n_value.0) in
     let row : ( let t = c.args.table.now in let i = c.loop-i.i in (i * 4 + 5 < length t) × (start_in t i ≤ get_or t (i * 4 + 4) 0) × (i + 1 ≤ 256)) =
-    let p = c.requires.tabled in (row_room _ _ _ p _ (here), omega (arith, table_length _ _ _ p _ (here)), omega (arith, here, p.listed.few)) in
+    let p = c.requires.tabled in (row_room _ _ _ p _ here, omega (arith, table_length _ _ _ p _ here), omega (arith, here, p.listed.few)) in
     omega (arith, row)
 
 pub offset_bounds-table-k : goal.offset_bounds-table-k
@@ -40,7 +40,7 @@ offset_bounds-table-k c =
     let here : ( c.loop-i.i < records_of c.args.z c.args.list.now) =
     omega (arith, c.loop-i-test.true, c.requires.n_value.0) in
     let row : ( let t = c.args.table.now in let i = c.loop-i.i in (i * 4 + 5 < length t) × (start_in t i ≤ get_or t (i * 4 + 4) 0) × (i + 1 ≤ 256)) =
-    let p = c.requires.tabled in (row_room _ _ _ p _ (here), omega (arith, table_length _ _ _ p _ (here)), omega (arith, here, p.listed.few)) in
+    let p = c.requires.tabled in (row_room _ _ _ p _ here, omega (arith, table_length _ _ _ p _ here), omega (arith, here, p.listed.few)) in
     omega (arith, row)
 
 pub bounds-table-k : goal.bounds-table-k
@@ -48,7 +48,7 @@ bounds-table-k c =
     let here : ( c.loop-i.i < records_of c.args.z c.args.list.now) =
     omega (arith, c.loop-i-test.true, c.requires.n_value.0) in
     let row : ( let t = c.args.table.now in let i = c.loop-i.i in (i * 4 + 5 < length t) × (start_in t i ≤ get_or t (i * 4 + 4) 0) × (i + 1 ≤ 256)) =
-    let p = c.requires.tabled in (row_room _ _ _ p _ (here), omega (arith, table_length _ _ _ p _ (here)), omega (arith, here, p.listed.few)) in
+    let p = c.requires.tabled in (row_room _ _ _ p _ here, omega (arith, table_length _ _ _ p _ here), omega (arith, here, p.listed.few)) in
     omega (arith, row)
 
 pub overflow_mul-k : goal.overflow_mul-k
@@ -56,7 +56,7 @@ overflow_mul-k c =
     let here : ( c.loop-i.i < records_of c.args.z c.args.list.now) =
     omega (arith, c.loop-i-test.true, c.requires.n_value.0) in
     let row : ( let t = c.args.table.now in let i = c.loop-i.i in (i * 4 + 5 < length t) × (start_in t i ≤ get_or t (i * 4 + 4) 0) × (i + 1 ≤ 256)) =
-    let p = c.requires.tabled in (row_room _ _ _ p _ (here), omega (arith, table_length _ _ _ p _ (here)), omega (arith, here, p.listed.few)) in
+    let p = c.requires.tabled in (row_room _ _ _ p _ here, omega (arith, table_length _ _ _ p _ here), omega (arith, here, p.listed.few)) in
     omega (arith, row)
 
 pub overflow_add-k : goal.overflow_add-k
@@ -64,7 +64,7 @@ overflow_add-k c =
     let here : ( c.loop-i.i < records_of c.args.z c.args.list.now) =
     omega (arith, c.loop-i-test.true, c.requires.n_value.0) in
     let row : ( let t = c.args.table.now in let i = c.loop-i.i in (i * 4 + 5 < length t) × (start_in t i ≤ get_or t (i * 4 + 4) 0) × (i + 1 ≤ 256)) =
-    let p = c.requires.tabled in (row_room _ _ _ p _ (here), omega (arith, table_length _ _ _ p _ (here)), omega (arith, here, p.listed.few)) in
+    let p = c.requires.tabled in (row_room _ _ _ p _ here, omega (arith, table_length _ _ _ p _ here), omega (arith, here, p.listed.few)) in
     omega (arith, row)
 
 pub offset_bounds-table-k-in-loop-i : goal.offset_bounds-table-k-in-loop-i
@@ -72,7 +72,7 @@ offset_bounds-table-k-in-loop-i c =
     let here : ( c.loop-i.i < records_of c.args.z c.args.list.now) =
     omega (arith, c.loop-i-test.true, c.requires.n_value.0) in
     let row : ( let t = c.args.table.now in let i = c.loop-i.i in (i * 4 + 5 < length t) × (start_in t i ≤ get_or t (i * 4 + 4) 0) × (i + 1 ≤ 256)) =
-    let p = c.requires.tabled in (row_room _ _ _ p _ (here), omega (arith, table_length _ _ _ p _ (here)), omega (arith, here, p.listed.few)) in
+    let p = c.requires.tabled in (row_room _ _ _ p _ here, omega (arith, table_length _ _ _ p _ here), omega (arith, here, p.listed.few)) in
     omega (arith, row)
 
 pub bounds-table-k-in-loop-i : goal.bounds-table-k-in-loop-i
@@ -80,7 +80,7 @@ bounds-table-k-in-loop-i c =
     let here : ( c.loop-i.i < records_of c.args.z c.args.list.now) =
     omega (arith, c.loop-i-test.true, c.requires.n_value.0) in
     let row : ( let t = c.args.table.now in let i = c.loop-i.i in (i * 4 + 5 < length t) × (start_in t i ≤ get_or t (i * 4 + 4) 0) × (i + 1 ≤ 256)) =
-    let p = c.requires.tabled in (row_room _ _ _ p _ (here), omega (arith, table_length _ _ _ p _ (here)), omega (arith, here, p.listed.few)) in
+    let p = c.requires.tabled in (row_room _ _ _ p _ here, omega (arith, table_length _ _ _ p _ here), omega (arith, here, p.listed.few)) in
     omega (arith, row)
 
 pub overflow_sub-table : goal.overflow_sub-table
@@ -88,22 +88,22 @@ overflow_sub-table c =
     let here : ( c.loop-i.i < records_of c.args.z c.args.list.now) =
     omega (arith, c.loop-i-test.true, c.requires.n_value.0) in
     let row : ( let t = c.args.table.now in let i = c.loop-i.i in (i * 4 + 5 < length t) × (start_in t i ≤ get_or t (i * 4 + 4) 0) × (i + 1 ≤ 256)) =
-    let p = c.requires.tabled in (row_room _ _ _ p _ (here), omega (arith, table_length _ _ _ p _ (here)), omega (arith, here, p.listed.few)) in
+    let p = c.requires.tabled in (row_room _ _ _ p _ here, omega (arith, table_length _ _ _ p _ here), omega (arith, here, p.listed.few)) in
     row.1
 
 pub returns-in-Refused : goal.returns-in-Refused
 returns-in-Refused c =
     let here : ( c.loop-i.i < records_of c.args.z c.args.list.now) =
     omega (arith, c.loop-i-test.true, c.requires.n_value.0) in
-    absurd (no_refusal _ _ _ c.requires.tabled c.loop-i.i here) (file_i c.before.before.before.before.before c.in-Refused.is))
+    absurd (no_refusal _ _ _ c.requires.tabled c.loop-i.i here (file_i c.before.before.before.before.before c.in-Refused.is))
 
 pub head-h-requires : goal.head-h-requires
 head-h-requires c =
     let here : ( c.loop-i.i < records_of c.args.z c.args.list.now) =
     omega (arith, c.loop-i-test.true, c.requires.n_value.0) in
     let cut : ( c.part-s.result.now ≡ part_at c.args.z c.args.chain.now c.args.list.now c.loop-i.i) =
-    let p = c.requires.tabled in part_is _ p.listed _ here) (p.start _ (omega (arith, here))) (omega (arith, table_length _ _ _ p _ here))) _ c.part-s.ensures in
-    record { tabled = c.requires.tabled; i_bound = here, file_i c.before.before.before c.in-Open.is, cut) }
+    let p = c.requires.tabled in part_is _ p.listed _ here (p.start _ (omega (arith, here))) (omega (arith, table_length _ _ _ p _ here)) _ c.part-s.ensures in
+    record { tabled = c.requires.tabled; i_bound = (here, file_i c.before.before.before c.in-Open.is, cut) }
 
 pub returns-then-h-gt0 : goal.returns-then-h-gt0
 returns-then-h-gt0 c =
@@ -115,18 +115,18 @@ scan-r-requires c =
     let here : ( c.loop-i.i < records_of c.args.z c.args.list.now) =
     omega (arith, c.loop-i-test.true, c.requires.n_value.0) in
     let cut : ( c.part-s.result.now ≡ part_at c.args.z c.args.chain.now c.args.list.now c.loop-i.i) =
-    let p = c.requires.tabled in part_is _ p.listed _ here) (p.start _ (omega (arith, here))) (omega (arith, table_length _ _ _ p _ here))) _ c.part-s.ensures in
-    let p = c.requires.tabled in record { starts = record { home = record { z = _; l = _; tabled = p; below = here }; before = c.loop-i.invariant.before }; s_value = cut ∙ sym (part_by_lem _ _ _ p _ here)), sym c.«open».ensures.is ∙ c.in-Open.is) }
+    let p = c.requires.tabled in part_is _ p.listed _ here (p.start _ (omega (arith, here))) (omega (arith, table_length _ _ _ p _ here)) _ c.part-s.ensures in
+    let p = c.requires.tabled in record { starts = record { home = record { z = _; l = _; tabled = p; below = here }; before = c.loop-i.invariant.before }; s_value = (cut ∙ sym (part_by_lem _ _ _ p _ here), sym c.«open».ensures.is ∙ c.in-Open.is) }
 
 pub returns-then-r-gt0 : goal.returns-then-r-gt0
 returns-then-r-gt0 c =
     let here : ( c.loop-i.i < records_of c.args.z c.args.list.now) =
     omega (arith, c.loop-i-test.true, c.requires.n_value.0) in
     let scanned : ( ScannedAs c.args.z c.args.chain.now c.args.list.now c.loop-i.i c.scan-r.result) =
-    c.scan-r.ensures _ _ c.requires.tabled here) c.loop-i.invariant.before in
+    c.scan-r.ensures _ _ c.requires.tabled here c.loop-i.invariant.before in
     rw (c.refused-then-r-gt0.ensures, c.of_file-then-r-gt0.ensures, c.at-then-r-gt0.ensures)
     (filing_commit _ _ _ _ _ c.loop-i.invariant c.loop-i-test.true c.head-h.ensures c.if-h-gt0.false
-    scanned) c.if-r-gt0.true)
+    scanned c.if-r-gt0.true)
 
 pub overflow_add-i : goal.overflow_add-i
 overflow_add-i c = omega (arith, row (ended c))
@@ -139,9 +139,9 @@ loop-i-preserved c =
     let here : ( c.loop-i.i < records_of c.args.z c.args.list.now) =
     omega (arith, c.loop-i-test.true, c.requires.n_value.0) in
     let scanned : ( ScannedAs c.args.z c.args.chain.now c.args.list.now c.loop-i.i c.scan-r.result) =
-    c.scan-r.ensures _ _ c.requires.tabled here) c.loop-i.invariant.before in
+    c.scan-r.ensures _ _ c.requires.tabled here c.loop-i.invariant.before in
     filing_next _ _ _ _ _ c.loop-i.invariant c.loop-i-test.true c.head-h.ensures c.if-h-gt0.false
-    scanned) c.if-r-gt0.false
+    scanned c.if-r-gt0.false
 
 pub overflow_mul-n : goal.overflow_mul-n
 overflow_mul-n c =

@@ -41,25 +41,25 @@ pub returns-then-q-gt0 : goal.returns-then-q-gt0
 returns-then-q-gt0 c =
     let files : (let a = c.args in c.look-v.result.refusal ≡ opened 32 a.chain.now a.list.now) =
     opened_pass 32 _ _ c.check-m.ensures c.if-m-gt0.false c.look-v.ensures.refusal in
-    right c.before.before.before.before.before.before.before (find_refused 32 _ _ _ files) c.if-q-gt0.true)
+    right c.before.before.before.before.before.before.before (find_refused 32 _ _ _ files c.if-q-gt0.true)
 
 pub returns-then-x-ne20 : goal.returns-then-x-ne20
 returns-then-x-ne20 c =
     let files : (let a = c.args in c.look-v.result.refusal ≡ opened 32 a.chain.now a.list.now) =
     opened_pass 32 _ _ c.check-m.ensures c.if-m-gt0.false c.look-v.ensures.refusal in
     right c.before.before.before.before.before.before.before.before.before
-    (find_width 32 _ _ _ files) c.if-q-gt0.false c.if-x-ne20.true c.at.ensures)
+    (find_width 32 _ _ _ files c.if-q-gt0.false c.if-x-ne20.true c.at.ensures)
 
 pub returns-then-hit : goal.returns-then-hit
 returns-then-hit c =
     let files : (let a = c.args in c.look-v.result.refusal ≡ opened 32 a.chain.now a.list.now) =
     opened_pass 32 _ _ c.check-m.ensures c.if-m-gt0.false c.look-v.ensures.refusal in
     right c.before.before.before.before.before.before.before.before.before
-    (find_at_lem 32 _ _ _ files) c.if-q-gt0.false c.if-x-ne20.false _ (c.look-v.ensures.answer (omega arith)) c.if-hit.true)
+    (find_at_lem 32 _ _ _ files c.if-q-gt0.false c.if-x-ne20.false _ (c.look-v.ensures.answer (omega arith)) c.if-hit.true)
 
 pub returns : goal.returns
 returns c =
     let files : (let a = c.args in c.look-v.result.refusal ≡ opened 32 a.chain.now a.list.now) =
     opened_pass 32 _ _ c.check-m.ensures c.if-m-gt0.false c.look-v.ensures.refusal in
     right c.before.before.before.before.before.before.before.before.before
-    (find_absent 32 _ _ _ files) c.if-q-gt0.false c.if-x-ne20.false _ (c.look-v.ensures.answer (omega arith)) c.if-hit.false)
+    (find_absent 32 _ _ _ files c.if-q-gt0.false c.if-x-ne20.false _ (c.look-v.ensures.answer (omega arith)) c.if-hit.false)

@@ -39,7 +39,7 @@ overflow_add-at c =
     omega (
       arith,
       along_room _ _ _ c.requires _ _ c.loop-k.invariant.along c.loop-k-test.true _ f_k,
-      ap length part_k),
+      ap length part_k,
     )
 
 pub overflow_add-k : goal.overflow_add-k
@@ -56,7 +56,7 @@ loop-k-preserved c =
     part_is _ c.requires _ c.loop-k-test.true c.loop-k.invariant.along.place c.length_at.ensures _ c.part-s.ensures in
     rw c.noted-y.ensures
     (look_next c.requires _ c.loop-k.invariant c.loop-k-test.true
-    (file_k c.before.before.before.before.before c.in-Open.is) part_k))
+    (file_k c.before.before.before.before.before c.in-Open.is) part_k)
 
 pub returns : goal.returns
 returns c =

@@ -30,13 +30,13 @@ pub returns-then-not-same : goal.returns-then-not-same
 returns-then-not-same c =
     let alien : ( let a = c.args in not c.same.result ≡ alien_by a.chain.now a.table.now a.w a.ids.now c.loop-j.j) =
     alien_by_lem _ _ _ _ _ _ (omega (arith, here c.before.before.before)) c.part.ensures c.same.ensures in
-    first_stop _ _ _ c.loop-j.invariant.1 c.loop-j-test.true (sym alien) ∙ c.if-not-same.true)
+    first_stop _ _ _ c.loop-j.invariant.1 c.loop-j-test.true (sym alien ∙ c.if-not-same.true)
 
 pub loop-j-preserved : goal.loop-j-preserved
 loop-j-preserved c =
     let alien : ( let a = c.args in not c.same.result ≡ alien_by a.chain.now a.table.now a.w a.ids.now c.loop-j.j) =
     alien_by_lem _ _ _ _ _ _ (omega (arith, here c.before.before.before)) c.part.ensures c.same.ensures in
-    (omega arith, first_step _ _ _ c.loop-j.invariant.1 c.loop-j-test.true (sym alien) ∙ c.if-not-same.false))
+    (omega arith, first_step _ _ _ c.loop-j.invariant.1 c.loop-j-test.true (sym alien ∙ c.if-not-same.false))
 
 pub returns : goal.returns
 returns c = first_ends _ _ _ c.loop-j.invariant.1 c.loop-j-test.false

@@ -22,23 +22,23 @@ bad_base-j-requires c =
     let h = c.requires.i_bound.0 in
     let o = c.requires.i_bound.1 in
     let e = ap (λ (n : ℕ). n * c.args.f.width) c.if-f-i.false in
-    (omega (arith, row_room _ _ _ p _ h), omega (arith, bases_long _ _ _ p h o (bases), e), reaches _ _ _ p h o)
+    (omega (arith, row_room _ _ _ p _ h), omega (arith, bases_long _ _ _ p h o bases, e), reaches _ _ _ p h o)
 
 pub returns-then-j-i : goal.returns-then-j-i
 returns-then-j-i c =
     let bases : (let a = c.args in c.part-ids.result.now ≡ base_part (part_at a.z a.chain.now a.list.now a.i) a.f) =
     let q = c.requires.i_bound.2 in (records_in _ _ _ _ _ (rw q (is_open _ _ _ _ c.requires.i_bound.1).fitted.base) c.part-ids.ensures).bytes ∙ rw q in
     let told : (let a = c.args in c.bad_base-j.result ≡ bad_base a.z a.chain.now a.list.now a.i) =
-    base_told _ _ _ c.requires.tabled c.requires.i_bound.0 c.requires.i_bound.1 bases) c.bad_base-j.ensures in
-    head_base _ _ _ _ c.requires.i_bound.0 c.requires.i_bound.1 c.if-f-i.false told) c.if-j-i.true
+    base_told _ _ _ c.requires.tabled c.requires.i_bound.0 c.requires.i_bound.1 bases c.bad_base-j.ensures in
+    head_base _ _ _ _ c.requires.i_bound.0 c.requires.i_bound.1 c.if-f-i.false told c.if-j-i.true
 
 pub returns-then-a-gt0 : goal.returns-then-a-gt0
 returns-then-a-gt0 c =
     let bases : (let a = c.args in c.part-ids.result.now ≡ base_part (part_at a.z a.chain.now a.list.now a.i) a.f) =
     let q = c.requires.i_bound.2 in (records_in _ _ _ _ _ (rw q (is_open _ _ _ _ c.requires.i_bound.1).fitted.base) c.part-ids.ensures).bytes ∙ rw q in
     let told : (let a = c.args in c.bad_base-j.result ≡ bad_base a.z a.chain.now a.list.now a.i) =
-    base_told _ _ _ c.requires.tabled c.requires.i_bound.0 c.requires.i_bound.1 bases) c.bad_base-j.ensures in
-    head_sum _ _ _ _ c.requires.i_bound.0 c.requires.i_bound.1 c.if-f-i.false told) c.if-j-i.false c.requires.i_bound.2
+    base_told _ _ _ c.requires.tabled c.requires.i_bound.0 c.requires.i_bound.1 bases c.bad_base-j.ensures in
+    head_sum _ _ _ _ c.requires.i_bound.0 c.requires.i_bound.1 c.if-f-i.false told c.if-j-i.false c.requires.i_bound.2
     c.sum_in-a.ensures c.if-a-gt0.true
 
 pub returns : goal.returns
@@ -46,6 +46,6 @@ returns c =
     let bases : (let a = c.args in c.part-ids.result.now ≡ base_part (part_at a.z a.chain.now a.list.now a.i) a.f) =
     let q = c.requires.i_bound.2 in (records_in _ _ _ _ _ (rw q (is_open _ _ _ _ c.requires.i_bound.1).fitted.base) c.part-ids.ensures).bytes ∙ rw q in
     let told : (let a = c.args in c.bad_base-j.result ≡ bad_base a.z a.chain.now a.list.now a.i) =
-    base_told _ _ _ c.requires.tabled c.requires.i_bound.0 c.requires.i_bound.1 bases) c.bad_base-j.ensures in
-    head_name _ _ _ _ c.requires.i_bound.0 c.requires.i_bound.1 c.if-f-i.false told) c.if-j-i.false
+    base_told _ _ _ c.requires.tabled c.requires.i_bound.0 c.requires.i_bound.1 bases c.bad_base-j.ensures in
+    head_name _ _ _ _ c.requires.i_bound.0 c.requires.i_bound.1 c.if-f-i.false told c.if-j-i.false
     c.requires.i_bound.2 c.sum_in-a.ensures c.if-a-gt0.false c.name_in.ensures

@@ -27,7 +27,7 @@ overflow_mul-i c =
     let cut : ( c.part-s.result.now ≡ part_at c.args.z c.args.chain.now c.args.list.now c.loop-k.k) =
     part_is _ c.requires.1 _ c.loop-k-test.true c.loop-k.invariant.along.place c.length_at.ensures _ c.part-s.ensures in
     let room : ( let o = c.loop-k in (o.sum + c.in-Open.f.commits ≤ 1073741824) × (o.at + length c.part-s.result.now ≤ 1073741824) × (o.at + c.in-Open.f.cdat ≤ 1073741824) × (o.k + 1 ≤ 256)) =
-    let r = tabling_room _ _ _ c.requires.1 c.loop-k.invariant c.loop-k-test.true (file_k c.before.before.before c.in-Open.is) in (r.0, omega (arith, r.1, ap length cut)), r.2, omega (arith, c.loop-k-test.true, c.requires.1.few)) in
+    let r = tabling_room _ _ _ c.requires.1 c.loop-k.invariant c.loop-k-test.true (file_k c.before.before.before c.in-Open.is) in (r.0, omega (arith, r.1, ap length cut), r.2, omega (arith, c.loop-k-test.true, c.requires.1.few)) in
     omega (arith, room)
 
 pub overflow_add-table : goal.overflow_add-table
@@ -35,7 +35,7 @@ overflow_add-table c =
     let cut : ( c.part-s.result.now ≡ part_at c.args.z c.args.chain.now c.args.list.now c.loop-k.k) =
     part_is _ c.requires.1 _ c.loop-k-test.true c.loop-k.invariant.along.place c.length_at.ensures _ c.part-s.ensures in
     let room : ( let o = c.loop-k in (o.sum + c.in-Open.f.commits ≤ 1073741824) × (o.at + length c.part-s.result.now ≤ 1073741824) × (o.at + c.in-Open.f.cdat ≤ 1073741824) × (o.k + 1 ≤ 256)) =
-    let r = tabling_room _ _ _ c.requires.1 c.loop-k.invariant c.loop-k-test.true (file_k c.before.before.before c.in-Open.is) in (r.0, omega (arith, r.1, ap length cut)), r.2, omega (arith, c.loop-k-test.true, c.requires.1.few)) in
+    let r = tabling_room _ _ _ c.requires.1 c.loop-k.invariant c.loop-k-test.true (file_k c.before.before.before c.in-Open.is) in (r.0, omega (arith, r.1, ap length cut), r.2, omega (arith, c.loop-k-test.true, c.requires.1.few)) in
     omega (arith, room)
 
 pub overflow_add-table-in-Open : goal.overflow_add-table-in-Open
@@ -43,7 +43,7 @@ overflow_add-table-in-Open c =
     let cut : ( c.part-s.result.now ≡ part_at c.args.z c.args.chain.now c.args.list.now c.loop-k.k) =
     part_is _ c.requires.1 _ c.loop-k-test.true c.loop-k.invariant.along.place c.length_at.ensures _ c.part-s.ensures in
     let room : ( let o = c.loop-k in (o.sum + c.in-Open.f.commits ≤ 1073741824) × (o.at + length c.part-s.result.now ≤ 1073741824) × (o.at + c.in-Open.f.cdat ≤ 1073741824) × (o.k + 1 ≤ 256)) =
-    let r = tabling_room _ _ _ c.requires.1 c.loop-k.invariant c.loop-k-test.true (file_k c.before.before.before c.in-Open.is) in (r.0, omega (arith, r.1, ap length cut)), r.2, omega (arith, c.loop-k-test.true, c.requires.1.few)) in
+    let r = tabling_room _ _ _ c.requires.1 c.loop-k.invariant c.loop-k-test.true (file_k c.before.before.before c.in-Open.is) in (r.0, omega (arith, r.1, ap length cut), r.2, omega (arith, c.loop-k-test.true, c.requires.1.few)) in
     omega (arith, room)
 
 pub offset_bounds-table-i : goal.offset_bounds-table-i
@@ -51,7 +51,7 @@ offset_bounds-table-i c =
     let cut : ( c.part-s.result.now ≡ part_at c.args.z c.args.chain.now c.args.list.now c.loop-k.k) =
     part_is _ c.requires.1 _ c.loop-k-test.true c.loop-k.invariant.along.place c.length_at.ensures _ c.part-s.ensures in
     let room : ( let o = c.loop-k in (o.sum + c.in-Open.f.commits ≤ 1073741824) × (o.at + length c.part-s.result.now ≤ 1073741824) × (o.at + c.in-Open.f.cdat ≤ 1073741824) × (o.k + 1 ≤ 256)) =
-    let r = tabling_room _ _ _ c.requires.1 c.loop-k.invariant c.loop-k-test.true (file_k c.before.before.before c.in-Open.is) in (r.0, omega (arith, r.1, ap length cut)), r.2, omega (arith, c.loop-k-test.true, c.requires.1.few)) in
+    let r = tabling_room _ _ _ c.requires.1 c.loop-k.invariant c.loop-k-test.true (file_k c.before.before.before c.in-Open.is) in (r.0, omega (arith, r.1, ap length cut), r.2, omega (arith, c.loop-k-test.true, c.requires.1.few)) in
     omega (arith, room)
 
 pub bounds-table-i : goal.bounds-table-i
@@ -59,7 +59,7 @@ bounds-table-i c =
     let cut : ( c.part-s.result.now ≡ part_at c.args.z c.args.chain.now c.args.list.now c.loop-k.k) =
     part_is _ c.requires.1 _ c.loop-k-test.true c.loop-k.invariant.along.place c.length_at.ensures _ c.part-s.ensures in
     let room : ( let o = c.loop-k in (o.sum + c.in-Open.f.commits ≤ 1073741824) × (o.at + length c.part-s.result.now ≤ 1073741824) × (o.at + c.in-Open.f.cdat ≤ 1073741824) × (o.k + 1 ≤ 256)) =
-    let r = tabling_room _ _ _ c.requires.1 c.loop-k.invariant c.loop-k-test.true (file_k c.before.before.before c.in-Open.is) in (r.0, omega (arith, r.1, ap length cut)), r.2, omega (arith, c.loop-k-test.true, c.requires.1.few)) in
+    let r = tabling_room _ _ _ c.requires.1 c.loop-k.invariant c.loop-k-test.true (file_k c.before.before.before c.in-Open.is) in (r.0, omega (arith, r.1, ap length cut), r.2, omega (arith, c.loop-k-test.true, c.requires.1.few)) in
     omega (arith, room)
 
 pub overflow_add-table-in-Open-2 : goal.overflow_add-table-in-Open-2
@@ -67,7 +67,7 @@ overflow_add-table-in-Open-2 c =
     let cut : ( c.part-s.result.now ≡ part_at c.args.z c.args.chain.now c.args.list.now c.loop-k.k) =
     part_is _ c.requires.1 _ c.loop-k-test.true c.loop-k.invariant.along.place c.length_at.ensures _ c.part-s.ensures in
     let room : ( let o = c.loop-k in (o.sum + c.in-Open.f.commits ≤ 1073741824) × (o.at + length c.part-s.result.now ≤ 1073741824) × (o.at + c.in-Open.f.cdat ≤ 1073741824) × (o.k + 1 ≤ 256)) =
-    let r = tabling_room _ _ _ c.requires.1 c.loop-k.invariant c.loop-k-test.true (file_k c.before.before.before c.in-Open.is) in (r.0, omega (arith, r.1, ap length cut)), r.2, omega (arith, c.loop-k-test.true, c.requires.1.few)) in
+    let r = tabling_room _ _ _ c.requires.1 c.loop-k.invariant c.loop-k-test.true (file_k c.before.before.before c.in-Open.is) in (r.0, omega (arith, r.1, ap length cut), r.2, omega (arith, c.loop-k-test.true, c.requires.1.few)) in
     omega (arith, room)
 
 pub offset_bounds-table-i-in-Open : goal.offset_bounds-table-i-in-Open
@@ -75,7 +75,7 @@ offset_bounds-table-i-in-Open c =
     let cut : ( c.part-s.result.now ≡ part_at c.args.z c.args.chain.now c.args.list.now c.loop-k.k) =
     part_is _ c.requires.1 _ c.loop-k-test.true c.loop-k.invariant.along.place c.length_at.ensures _ c.part-s.ensures in
     let room : ( let o = c.loop-k in (o.sum + c.in-Open.f.commits ≤ 1073741824) × (o.at + length c.part-s.result.now ≤ 1073741824) × (o.at + c.in-Open.f.cdat ≤ 1073741824) × (o.k + 1 ≤ 256)) =
-    let r = tabling_room _ _ _ c.requires.1 c.loop-k.invariant c.loop-k-test.true (file_k c.before.before.before c.in-Open.is) in (r.0, omega (arith, r.1, ap length cut)), r.2, omega (arith, c.loop-k-test.true, c.requires.1.few)) in
+    let r = tabling_room _ _ _ c.requires.1 c.loop-k.invariant c.loop-k-test.true (file_k c.before.before.before c.in-Open.is) in (r.0, omega (arith, r.1, ap length cut), r.2, omega (arith, c.loop-k-test.true, c.requires.1.few)) in
     omega (arith, room)
 
 pub bounds-table-i-in-Open : goal.bounds-table-i-in-Open
@@ -83,7 +83,7 @@ bounds-table-i-in-Open c =
     let cut : ( c.part-s.result.now ≡ part_at c.args.z c.args.chain.now c.args.list.now c.loop-k.k) =
     part_is _ c.requires.1 _ c.loop-k-test.true c.loop-k.invariant.along.place c.length_at.ensures _ c.part-s.ensures in
     let room : ( let o = c.loop-k in (o.sum + c.in-Open.f.commits ≤ 1073741824) × (o.at + length c.part-s.result.now ≤ 1073741824) × (o.at + c.in-Open.f.cdat ≤ 1073741824) × (o.k + 1 ≤ 256)) =
-    let r = tabling_room _ _ _ c.requires.1 c.loop-k.invariant c.loop-k-test.true (file_k c.before.before.before c.in-Open.is) in (r.0, omega (arith, r.1, ap length cut)), r.2, omega (arith, c.loop-k-test.true, c.requires.1.few)) in
+    let r = tabling_room _ _ _ c.requires.1 c.loop-k.invariant c.loop-k-test.true (file_k c.before.before.before c.in-Open.is) in (r.0, omega (arith, r.1, ap length cut), r.2, omega (arith, c.loop-k-test.true, c.requires.1.few)) in
     omega (arith, room)
 
 pub overflow_add-at : goal.overflow_add-at
@@ -91,7 +91,7 @@ overflow_add-at c =
     let cut : ( c.part-s.result.now ≡ part_at c.args.z c.args.chain.now c.args.list.now c.loop-k.k) =
     part_is _ c.requires.1 _ c.loop-k-test.true c.loop-k.invariant.along.place c.length_at.ensures _ c.part-s.ensures in
     let room : ( let o = c.loop-k in (o.sum + c.in-Open.f.commits ≤ 1073741824) × (o.at + length c.part-s.result.now ≤ 1073741824) × (o.at + c.in-Open.f.cdat ≤ 1073741824) × (o.k + 1 ≤ 256)) =
-    let r = tabling_room _ _ _ c.requires.1 c.loop-k.invariant c.loop-k-test.true (file_k c.before.before.before c.in-Open.is) in (r.0, omega (arith, r.1, ap length cut)), r.2, omega (arith, c.loop-k-test.true, c.requires.1.few)) in
+    let r = tabling_room _ _ _ c.requires.1 c.loop-k.invariant c.loop-k-test.true (file_k c.before.before.before c.in-Open.is) in (r.0, omega (arith, r.1, ap length cut), r.2, omega (arith, c.loop-k-test.true, c.requires.1.few)) in
     omega (arith, room)
 
 pub overflow_add-sum : goal.overflow_add-sum
@@ -99,7 +99,7 @@ overflow_add-sum c =
     let cut : ( c.part-s.result.now ≡ part_at c.args.z c.args.chain.now c.args.list.now c.loop-k.k) =
     part_is _ c.requires.1 _ c.loop-k-test.true c.loop-k.invariant.along.place c.length_at.ensures _ c.part-s.ensures in
     let room : ( let o = c.loop-k in (o.sum + c.in-Open.f.commits ≤ 1073741824) × (o.at + length c.part-s.result.now ≤ 1073741824) × (o.at + c.in-Open.f.cdat ≤ 1073741824) × (o.k + 1 ≤ 256)) =
-    let r = tabling_room _ _ _ c.requires.1 c.loop-k.invariant c.loop-k-test.true (file_k c.before.before.before c.in-Open.is) in (r.0, omega (arith, r.1, ap length cut)), r.2, omega (arith, c.loop-k-test.true, c.requires.1.few)) in
+    let r = tabling_room _ _ _ c.requires.1 c.loop-k.invariant c.loop-k-test.true (file_k c.before.before.before c.in-Open.is) in (r.0, omega (arith, r.1, ap length cut), r.2, omega (arith, c.loop-k-test.true, c.requires.1.few)) in
     omega (arith, room)
 
 pub overflow_add-table-in-Open-3 : goal.overflow_add-table-in-Open-3
@@ -107,7 +107,7 @@ overflow_add-table-in-Open-3 c =
     let cut : ( c.part-s.result.now ≡ part_at c.args.z c.args.chain.now c.args.list.now c.loop-k.k) =
     part_is _ c.requires.1 _ c.loop-k-test.true c.loop-k.invariant.along.place c.length_at.ensures _ c.part-s.ensures in
     let room : ( let o = c.loop-k in (o.sum + c.in-Open.f.commits ≤ 1073741824) × (o.at + length c.part-s.result.now ≤ 1073741824) × (o.at + c.in-Open.f.cdat ≤ 1073741824) × (o.k + 1 ≤ 256)) =
-    let r = tabling_room _ _ _ c.requires.1 c.loop-k.invariant c.loop-k-test.true (file_k c.before.before.before c.in-Open.is) in (r.0, omega (arith, r.1, ap length cut)), r.2, omega (arith, c.loop-k-test.true, c.requires.1.few)) in
+    let r = tabling_room _ _ _ c.requires.1 c.loop-k.invariant c.loop-k-test.true (file_k c.before.before.before c.in-Open.is) in (r.0, omega (arith, r.1, ap length cut), r.2, omega (arith, c.loop-k-test.true, c.requires.1.few)) in
     omega (arith, room)
 
 pub offset_bounds-table-i-in-Open-2 : goal.offset_bounds-table-i-in-Open-2
@@ -115,7 +115,7 @@ offset_bounds-table-i-in-Open-2 c =
     let cut : ( c.part-s.result.now ≡ part_at c.args.z c.args.chain.now c.args.list.now c.loop-k.k) =
     part_is _ c.requires.1 _ c.loop-k-test.true c.loop-k.invariant.along.place c.length_at.ensures _ c.part-s.ensures in
     let room : ( let o = c.loop-k in (o.sum + c.in-Open.f.commits ≤ 1073741824) × (o.at + length c.part-s.result.now ≤ 1073741824) × (o.at + c.in-Open.f.cdat ≤ 1073741824) × (o.k + 1 ≤ 256)) =
-    let r = tabling_room _ _ _ c.requires.1 c.loop-k.invariant c.loop-k-test.true (file_k c.before.before.before c.in-Open.is) in (r.0, omega (arith, r.1, ap length cut)), r.2, omega (arith, c.loop-k-test.true, c.requires.1.few)) in
+    let r = tabling_room _ _ _ c.requires.1 c.loop-k.invariant c.loop-k-test.true (file_k c.before.before.before c.in-Open.is) in (r.0, omega (arith, r.1, ap length cut), r.2, omega (arith, c.loop-k-test.true, c.requires.1.few)) in
     omega (arith, room)
 
 pub bounds-table-i-in-Open-2 : goal.bounds-table-i-in-Open-2
@@ -123,7 +123,7 @@ bounds-table-i-in-Open-2 c =
     let cut : ( c.part-s.result.now ≡ part_at c.args.z c.args.chain.now c.args.list.now c.loop-k.k) =
     part_is _ c.requires.1 _ c.loop-k-test.true c.loop-k.invariant.along.place c.length_at.ensures _ c.part-s.ensures in
     let room : ( let o = c.loop-k in (o.sum + c.in-Open.f.commits ≤ 1073741824) × (o.at + length c.part-s.result.now ≤ 1073741824) × (o.at + c.in-Open.f.cdat ≤ 1073741824) × (o.k + 1 ≤ 256)) =
-    let r = tabling_room _ _ _ c.requires.1 c.loop-k.invariant c.loop-k-test.true (file_k c.before.before.before c.in-Open.is) in (r.0, omega (arith, r.1, ap length cut)), r.2, omega (arith, c.loop-k-test.true, c.requires.1.few)) in
+    let r = tabling_room _ _ _ c.requires.1 c.loop-k.invariant c.loop-k-test.true (file_k c.before.before.before c.in-Open.is) in (r.0, omega (arith, r.1, ap length cut), r.2, omega (arith, c.loop-k-test.true, c.requires.1.few)) in
     omega (arith, room)
 
 pub overflow_add-table-in-Open-4 : goal.overflow_add-table-in-Open-4
@@ -131,7 +131,7 @@ overflow_add-table-in-Open-4 c =
     let cut : ( c.part-s.result.now ≡ part_at c.args.z c.args.chain.now c.args.list.now c.loop-k.k) =
     part_is _ c.requires.1 _ c.loop-k-test.true c.loop-k.invariant.along.place c.length_at.ensures _ c.part-s.ensures in
     let room : ( let o = c.loop-k in (o.sum + c.in-Open.f.commits ≤ 1073741824) × (o.at + length c.part-s.result.now ≤ 1073741824) × (o.at + c.in-Open.f.cdat ≤ 1073741824) × (o.k + 1 ≤ 256)) =
-    let r = tabling_room _ _ _ c.requires.1 c.loop-k.invariant c.loop-k-test.true (file_k c.before.before.before c.in-Open.is) in (r.0, omega (arith, r.1, ap length cut)), r.2, omega (arith, c.loop-k-test.true, c.requires.1.few)) in
+    let r = tabling_room _ _ _ c.requires.1 c.loop-k.invariant c.loop-k-test.true (file_k c.before.before.before c.in-Open.is) in (r.0, omega (arith, r.1, ap length cut), r.2, omega (arith, c.loop-k-test.true, c.requires.1.few)) in
     omega (arith, room)
 
 pub offset_bounds-table-i-in-Open-3 : goal.offset_bounds-table-i-in-Open-3
@@ -139,7 +139,7 @@ offset_bounds-table-i-in-Open-3 c =
     let cut : ( c.part-s.result.now ≡ part_at c.args.z c.args.chain.now c.args.list.now c.loop-k.k) =
     part_is _ c.requires.1 _ c.loop-k-test.true c.loop-k.invariant.along.place c.length_at.ensures _ c.part-s.ensures in
     let room : ( let o = c.loop-k in (o.sum + c.in-Open.f.commits ≤ 1073741824) × (o.at + length c.part-s.result.now ≤ 1073741824) × (o.at + c.in-Open.f.cdat ≤ 1073741824) × (o.k + 1 ≤ 256)) =
-    let r = tabling_room _ _ _ c.requires.1 c.loop-k.invariant c.loop-k-test.true (file_k c.before.before.before c.in-Open.is) in (r.0, omega (arith, r.1, ap length cut)), r.2, omega (arith, c.loop-k-test.true, c.requires.1.few)) in
+    let r = tabling_room _ _ _ c.requires.1 c.loop-k.invariant c.loop-k-test.true (file_k c.before.before.before c.in-Open.is) in (r.0, omega (arith, r.1, ap length cut), r.2, omega (arith, c.loop-k-test.true, c.requires.1.few)) in
     omega (arith, room)
 
 pub bounds-table-i-in-Open-3 : goal.bounds-table-i-in-Open-3
@@ -147,7 +147,7 @@ bounds-table-i-in-Open-3 c =
     let cut : ( c.part-s.result.now ≡ part_at c.args.z c.args.chain.now c.args.list.now c.loop-k.k) =
     part_is _ c.requires.1 _ c.loop-k-test.true c.loop-k.invariant.along.place c.length_at.ensures _ c.part-s.ensures in
     let room : ( let o = c.loop-k in (o.sum + c.in-Open.f.commits ≤ 1073741824) × (o.at + length c.part-s.result.now ≤ 1073741824) × (o.at + c.in-Open.f.cdat ≤ 1073741824) × (o.k + 1 ≤ 256)) =
-    let r = tabling_room _ _ _ c.requires.1 c.loop-k.invariant c.loop-k-test.true (file_k c.before.before.before c.in-Open.is) in (r.0, omega (arith, r.1, ap length cut)), r.2, omega (arith, c.loop-k-test.true, c.requires.1.few)) in
+    let r = tabling_room _ _ _ c.requires.1 c.loop-k.invariant c.loop-k-test.true (file_k c.before.before.before c.in-Open.is) in (r.0, omega (arith, r.1, ap length cut), r.2, omega (arith, c.loop-k-test.true, c.requires.1.few)) in
     omega (arith, room)
 
 pub overflow_add-k : goal.overflow_add-k
@@ -155,7 +155,7 @@ overflow_add-k c =
     let cut : ( c.part-s.result.now ≡ part_at c.args.z c.args.chain.now c.args.list.now c.loop-k.k) =
     part_is _ c.requires.1 _ c.loop-k-test.true c.loop-k.invariant.along.place c.length_at.ensures _ c.part-s.ensures in
     let room : ( let o = c.loop-k in (o.sum + c.in-Open.f.commits ≤ 1073741824) × (o.at + length c.part-s.result.now ≤ 1073741824) × (o.at + c.in-Open.f.cdat ≤ 1073741824) × (o.k + 1 ≤ 256)) =
-    let r = tabling_room _ _ _ c.requires.1 c.loop-k.invariant c.loop-k-test.true (file_k c.before.before.before c.in-Open.is) in (r.0, omega (arith, r.1, ap length cut)), r.2, omega (arith, c.loop-k-test.true, c.requires.1.few)) in
+    let r = tabling_room _ _ _ c.requires.1 c.loop-k.invariant c.loop-k-test.true (file_k c.before.before.before c.in-Open.is) in (r.0, omega (arith, r.1, ap length cut), r.2, omega (arith, c.loop-k-test.true, c.requires.1.few)) in
     omega (arith, room)
 
 pub loop-k-smaller : goal.loop-k-smaller
@@ -163,7 +163,7 @@ loop-k-smaller c =
     let cut : ( c.part-s.result.now ≡ part_at c.args.z c.args.chain.now c.args.list.now c.loop-k.k) =
     part_is _ c.requires.1 _ c.loop-k-test.true c.loop-k.invariant.along.place c.length_at.ensures _ c.part-s.ensures in
     let room : ( let o = c.loop-k in (o.sum + c.in-Open.f.commits ≤ 1073741824) × (o.at + length c.part-s.result.now ≤ 1073741824) × (o.at + c.in-Open.f.cdat ≤ 1073741824) × (o.k + 1 ≤ 256)) =
-    let r = tabling_room _ _ _ c.requires.1 c.loop-k.invariant c.loop-k-test.true (file_k c.before.before.before c.in-Open.is) in (r.0, omega (arith, r.1, ap length cut)), r.2, omega (arith, c.loop-k-test.true, c.requires.1.few)) in
+    let r = tabling_room _ _ _ c.requires.1 c.loop-k.invariant c.loop-k-test.true (file_k c.before.before.before c.in-Open.is) in (r.0, omega (arith, r.1, ap length cut), r.2, omega (arith, c.loop-k-test.true, c.requires.1.few)) in
     omega (arith, room)
 
 pub loop-k-preserved : goal.loop-k-preserved
@@ -171,7 +171,7 @@ loop-k-preserved c =
     let cut : ( c.part-s.result.now ≡ part_at c.args.z c.args.chain.now c.args.list.now c.loop-k.k) =
     part_is _ c.requires.1 _ c.loop-k-test.true c.loop-k.invariant.along.place c.length_at.ensures _ c.part-s.ensures in
     tabling_next _ _ _ c.requires.1 c.loop-k.invariant c.loop-k-test.true (file_k c.before.before.before.before.before c.in-Open.is)
-    (ap length cut))
+    (ap length cut)
 
 pub returns : goal.returns
 returns c =
