@@ -13,5 +13,5 @@ pub returns-in-At : goal.returns-in-At
 returns-in-At c =
     let t = c.list_at-t.ensures in
     let k = list_told 32 c.args.chain c.args.list.now c.args.pos.0 c.args.out.now (sym c.locate.ensures.is ∙ c.in-At.is) c.part-s.ensures
-        t.answer.is t.holds c.in_file.ensures in
+    t.answer.is t.holds c.in_file.ensures in
     record { answer = answers k.0; holds = k.1 }
