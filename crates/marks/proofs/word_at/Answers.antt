@@ -1,4 +1,4 @@
--- `marks::word_at` meets its contract: each answer of the step is a row of `markBy`; where it is a parent its word lies in the file (`step-word`).
+-- `marks::word_at` meets its contract: each answer of the step is a row of `mark_by`; where it is a parent its word lies in the file (`step_word`).
 use mathlib.Core.Path.{refl, ap}
 use native.Mathlib.Omega.{arith}
 use Rattle.types.proofs.Saying.{answers}
