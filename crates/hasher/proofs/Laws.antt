@@ -1,4 +1,4 @@
--- The laws of a hasher: what it has had in pieces is what it has had. That it then gives the digest of it is in the crate `sha1`.
+-- The laws of a hasher: what it has had in pieces is what it has had. That it then gives the digest of it is in the crate `digest`.
 use Rattle.std.proofs.Common.{◌≡◌, ℕ, List, [], ◌++◌, length, refl}
 use Rattle.block.specs.Message.{after, after_all}
 use Rattle.block.specs.Fips.{compress}

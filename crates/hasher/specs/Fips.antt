@@ -1,4 +1,4 @@
--- SHA-1 as FIPS 180-4 defines it: the first five words. What one block does is in the crate `block`, the digest in the crate `sha1`.
+-- SHA-1 as FIPS 180-4 defines it: the first five words. What one block does is in the crate `block`, the digest in the crate `digest`.
 use Rattle.std.specs.Prelude.{ℕ, List, [], ◌∷◌}
 
 -- 5.3.1: the first five words

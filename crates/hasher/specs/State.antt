@@ -1,4 +1,4 @@
--- What a hasher does, as functions on its value. The laws that tie it to a whole message are in proofs/Laws.antt, here and in the crate `sha1`.
+-- What a hasher does, as functions on its value. The laws that tie it to a whole message are in proofs/Laws.antt, here and in the crate `digest`.
 use Rattle.std.specs.Prelude.{ℕ, List, replicate}
 use Rattle.block.specs.Fips.{compress}
 use Rattle.hasher.specs.Message.{padding, bytes}

@@ -3,13 +3,7 @@
 use mathlib.Core.Path.{refl}
 use native.Mathlib.Omega.{arith}
 use Rattle.fit.proofs.Fitting.{Answered, answered, part_none, row_part, run_within}
-use Rattle.access.proofs.base_at.Goals.{Else-ask-gt0}
 use Rattle.access.proofs.base_at.Goals as goal
-
--- the question was answered
-fine : (c : Else-ask-gt0)
-    → (let a = c.args in Answered a.s.now a.f a.f.bases a.j)
-fine c = answered _ _ _ _ c.ask.ensures c.if-ask-gt0.false
 
 pub returns-then-ask-gt0 : goal.returns-then-ask-gt0
 returns-then-ask-gt0 c =
@@ -17,14 +11,21 @@ returns-then-ask-gt0 c =
     (record { block = refl; start = omega arith; bytes = refl })
 
 pub base-requires : goal.base-requires
-base-requires c = (fine c).ranges
+base-requires c =
+    let fine : (let a = c.args in Answered a.s.now a.f a.f.bases a.j) =
+    answered _ _ _ _ c.ask.ensures c.if-ask-gt0.false in
+    fine.fits
 
 pub overflow_mul-j : goal.overflow_mul-j
 overflow_mul-j c =
+    let fine : (let a = c.args in Answered a.s.now a.f a.f.bases a.j) =
+    answered _ _ _ _ c.ask.ensures c.if-ask-gt0.false in
     let a = c.args in
-    omega (arith, run_within a.j a.f.bases a.f.width (fine c.before.before).below, (fine c.before.before).ranges)
+    omega (arith, run_within a.j a.f.bases a.f.width fine.below, fine.fits)
 
 pub returns : goal.returns
 returns c =
-    let k = fine c.before.before.before in
+    let fine : (let a = c.args in Answered a.s.now a.f a.f.bases a.j) =
+    answered _ _ _ _ c.ask.ensures c.if-ask-gt0.false in
+    let k = fine in
     row_part _ _ _ _ c.base.ensures k.below (omega arith) k.rule k.fits.base c.part.ensures

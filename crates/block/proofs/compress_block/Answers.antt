@@ -6,11 +6,11 @@ pub returns : goal.returns
 unfolding compress sums
 returns c =
     simp (
-      c.wrapping_add_u32-5.ensures,
-      c.wrapping_add_u32-4.ensures,
-      c.wrapping_add_u32-3.ensures,
-      c.wrapping_add_u32-2.ensures,
-      c.wrapping_add_u32.ensures,
+      c.wrapping_add_u32-5.ensures.value,
+      c.wrapping_add_u32-4.ensures.value,
+      c.wrapping_add_u32-3.ensures.value,
+      c.wrapping_add_u32-2.ensures.value,
+      c.wrapping_add_u32.ensures.value,
       c.all_rounds-s.ensures,
       c.schedule_of-w.ensures,
     )

@@ -1,4 +1,4 @@
-use Rattle.std.proofs.Common.{◌≡◌, ◌-◌, refl, ◌∙◌, arith, length-set, rules}
+use Rattle.std.proofs.Common.{◌≡◌, refl, ◌∙◌, arith, length-set, rules}
 use Rattle.block.specs.Fips.{schedule}
 use Rattle.block.proofs.Schedule.{stored, next_low}
 use borrow.Author.Rules.{rules}

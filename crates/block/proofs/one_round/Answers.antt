@@ -7,11 +7,11 @@ unfolding round
 returns c =
     simp (
       c.rotate-2.ensures,
-      c.wrapping_add_u32-d.ensures,
-      c.wrapping_add_u32-c.ensures,
+      c.wrapping_add_u32-d.ensures.value,
+      c.wrapping_add_u32-c.ensures.value,
       c.constant.ensures,
-      c.wrapping_add_u32-b.ensures,
-      c.wrapping_add_u32-a.ensures,
+      c.wrapping_add_u32-b.ensures.value,
+      c.wrapping_add_u32-a.ensures.value,
       c.mix.ensures,
       c.rotate.ensures,
     )

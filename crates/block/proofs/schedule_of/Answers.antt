@@ -1,4 +1,4 @@
-use Rattle.std.proofs.Common.{◌-◌, ◌∙◌, arith, length-set, rules}
+use Rattle.std.proofs.Common.{◌∙◌, arith, length-set, rules}
 use Rattle.block.specs.Fips.{schedule}
 use Rattle.block.proofs.Schedule.{stored, next_high}
 use Rattle.words.proofs.Fills.{whole}

@@ -1,5 +1,5 @@
 -- `block::schedule_of` meets its contract. The invariant: 16 ≤ t ≤ 80, `w` has 80 words, and its first t words are the first t of the block's schedule.
--- The measure is 80 - t. Each turn stores the next word (`stored`, `next-high`); at t = 80 the first t words are all of `w` (`whole`).
+-- The measure is 80 - t. Each turn stores the next word (`stored`, `next_high`); at t = 80 the first t words are all of `w` (`whole`).
 use Rattle.std.proofs.Common.{◌≡◌, ◌-◌, ◌≤◌, length, take}
 use Rattle.block.specs.Fips.{schedule}
 use Rattle.block.proofs.schedule_of.Given as goal

@@ -10,7 +10,8 @@ pub returns-then-m-gt0 : goal.returns-then-m-gt0
 returns-then-m-gt0 c = answers (ap Refused c.at.ensures ∙ commit_misfit _ _ _ c.ask-m.ensures c.if-m-gt0.true)
 
 pub row_at-requires : goal.row_at-requires
-row_at-requires c = let k = answered _ _ _ _ c.ask-m.ensures c.if-m-gt0.false in (k.fits, k.below)
+row_at-requires c =
+    let k = answered _ _ _ _ c.ask-m.ensures c.if-m-gt0.false in record { fitted = k.fits; i_lt_commits = k.below }
 
 pub returns : goal.returns
 returns c =

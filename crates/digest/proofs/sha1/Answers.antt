@@ -1,4 +1,4 @@
--- `digest::sha1` meets its contract: a hasher that has had a message gives the digest of it (`of_none`, `of-more`, `of-finished`).
+-- `digest::sha1` meets its contract: a hasher that has had a message gives the digest of it (`of_none`, `of_more`, `of_finished`).
 use Prim.Native.Nat.{ℕ}
 use mathlib.Core.List.{List, []}
 use Rattle.hasher.proofs.Laws.{of_none, of_more}

@@ -7,17 +7,7 @@ use Rattle.fit.proofs.Fitting.{Answered, answered}
 use Rattle.rules.specs.Rules.{entry_in}
 use Rattle.access.specs.declared.Asking.TheVariants.{Refused}
 use Rattle.marks.proofs.Ways.{entry_out, entry_bad, entry_fine, entry_cut}
-use Rattle.marks.proofs.entry_at.Goals.{After-entry_in-k}
 use Rattle.marks.proofs.entry_at.Goals as goal
-
--- the question passes, and k is what the entry's rule says of the file's own parts
-asked : (c : After-entry_in-k)
-    → ( let a = c.args in
-    Answered a.s.now a.f a.f.commits a.pos.0
-    × (c.entry_in-k.result ≡ entry_in a.f.width (fan_part a.s.now a.f) (ids_part a.s.now a.f) (rows_part a.s.now a.f) a.pos.0))
-asked c =
-    let k = answered _ _ _ _ c.ask-m.ensures c.if-m-gt0.false in
-    (k, c.entry_in-k.ensures ∙ entry_cut _ _ _ _ k c.part-fan.ensures c.part-ids.ensures c.part-rows.ensures)
 
 pub returns-then-m-gt0 : goal.returns-then-m-gt0
 returns-then-m-gt0 c = answers (ap Refused c.at.ensures ∙ entry_out _ _ _ c.ask-m.ensures c.if-m-gt0.true)
@@ -28,8 +18,13 @@ overflow_add-w c =
 
 pub returns-then-k-gt0 : goal.returns-then-k-gt0
 returns-then-k-gt0 c =
-    let k = asked c.before.before.before in
+    let asked : ( let a = c.args in Answered a.s.now a.f a.f.commits a.pos.0 × (c.entry_in-k.result ≡ entry_in a.f.width (fan_part a.s.now a.f) (ids_part a.s.now a.f) (rows_part a.s.now a.f) a.pos.0)) =
+    let k = answered _ _ _ _ c.ask-m.ensures c.if-m-gt0.false in (k, c.entry_in-k.ensures ∙ entry_cut _ _ _ _ k c.part-fan.ensures c.part-ids.ensures c.part-rows.ensures) in
+    let k = asked in
     answers (ap Refused c.at-then-k-gt0.ensures ∙ entry_bad _ _ _ k.0 k.1 c.if-k-gt0.true)
 
 pub returns : goal.returns
-returns c = answers (let k = asked c.before in entry_fine _ _ _ k.0 k.1 c.if-k-gt0.false)
+returns c =
+    let asked : ( let a = c.args in Answered a.s.now a.f a.f.commits a.pos.0 × (c.entry_in-k.result ≡ entry_in a.f.width (fan_part a.s.now a.f) (ids_part a.s.now a.f) (rows_part a.s.now a.f) a.pos.0)) =
+    let k = answered _ _ _ _ c.ask-m.ensures c.if-m-gt0.false in (k, c.entry_in-k.ensures ∙ entry_cut _ _ _ _ k c.part-fan.ensures c.part-ids.ensures c.part-rows.ensures) in
+    answers (let k = asked in entry_fine _ _ _ k.0 k.1 c.if-k-gt0.false)

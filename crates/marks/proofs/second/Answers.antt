@@ -8,23 +8,21 @@ use Rattle.commit.specs.Commits.{row_of}
 use Rattle.commit.proofs.Words.{commit_given, commit_barred}
 use Rattle.marks.specs.Marks.{second_at}
 use Rattle.marks.proofs.Reading.{field_fits, step_word, second_place}
-use Rattle.marks.proofs.second.Goals.{In-Commit-2}
 use Rattle.marks.proofs.second.Goals as goal
 
--- the commit was read: its question passes, and it is the row
-row : (c : In-Commit-2)
-    → (let a = c.args in
-    Answered a.s.now a.f a.f.commits a.pos.0 × (c.in-Commit.c ≡ row_of a.s.now a.f a.pos.0))
-row c = commit_given _ _ _ c.commit_at.ensures.is c.in-Commit.is
-
 pub field-requires : goal.field-requires
-field-requires c = field_fits (row c.before.before.before).0 4 (omega arith) (omega arith)
+field-requires c =
+    let row : (let a = c.args in Answered a.s.now a.f a.f.commits a.pos.0 × (c.in-Commit.c ≡ row_of a.s.now a.f a.pos.0)) =
+    commit_given _ _ _ c.commit_at.ensures.is c.in-Commit.is in
+    field_fits row.0 4 (omega arith) (omega arith)
 
 pub edge-requires : goal.edge-requires
 unfolding second_at
 edge-requires c =
+    let row : (let a = c.args in Answered a.s.now a.f a.f.commits a.pos.0 × (c.in-Commit.c ≡ row_of a.s.now a.f a.pos.0)) =
+    commit_given _ _ _ c.commit_at.ensures.is c.in-Commit.is in
     let a = c.args in
-    let p = second_place a.s.now a.f a.pos.0 (row c.before.before.before.before).1 c.in-ExtraEdgeIndex.is in
+    let p = second_place a.s.now a.f a.pos.0 row.1 c.in-ExtraEdgeIndex.is in
     let w = (step_word a.s.now a.f a.pos.0 Second (λ i. (c.type_inv.s i).fits) c.requires.1).1 in
     omega (arith, w.inside, p)
 
@@ -35,13 +33,21 @@ returns-in-Refused c =
 
 pub returns-in-None : goal.returns-in-None
 unfolding second_at
-returns-in-None c = second_place _ _ _ (row c.before.before.before).1 c.in-None.is
+returns-in-None c =
+    let row : (let a = c.args in Answered a.s.now a.f a.f.commits a.pos.0 × (c.in-Commit.c ≡ row_of a.s.now a.f a.pos.0)) =
+    commit_given _ _ _ c.commit_at.ensures.is c.in-Commit.is in
+    second_place _ _ _ row.1 c.in-None.is
 
 pub returns-in-GraphPosition : goal.returns-in-GraphPosition
 unfolding second_at
-returns-in-GraphPosition c = c.field.ensures ∙ second_place _ _ _ (row c.before.before.before.before).1 c.in-GraphPosition.is
+returns-in-GraphPosition c =
+    let row : (let a = c.args in Answered a.s.now a.f a.f.commits a.pos.0 × (c.in-Commit.c ≡ row_of a.s.now a.f a.pos.0)) =
+    commit_given _ _ _ c.commit_at.ensures.is c.in-Commit.is in
+    c.field.ensures ∙ second_place _ _ _ row.1 c.in-GraphPosition.is
 
 pub returns-in-ExtraEdgeIndex : goal.returns-in-ExtraEdgeIndex
 unfolding second_at
 returns-in-ExtraEdgeIndex c =
-    c.edge.ensures ∙ second_place _ _ _ (row c.before.before.before.before.before).1 c.in-ExtraEdgeIndex.is
+    let row : (let a = c.args in Answered a.s.now a.f a.f.commits a.pos.0 × (c.in-Commit.c ≡ row_of a.s.now a.f a.pos.0)) =
+    commit_given _ _ _ c.commit_at.ensures.is c.in-Commit.is in
+    c.edge.ensures ∙ second_place _ _ _ row.1 c.in-ExtraEdgeIndex.is

@@ -9,7 +9,7 @@ slice_bounds-verify-count c = omega (arith, listed _ c.parts.ensures c.if-parts.
 
 pub returns-then-parts : goal.returns-then-parts
 returns-then-parts c =
-    let v = taken _ c.be32.ensures c.verify.ensures.0.is in
+    let v = taken _ c.be32.ensures c.verify.ensures.exact.is in
     printed _ (output_read _ c.parts.ensures c.if-parts.true v) c.answer.ensures
 
 pub returns : goal.returns

@@ -10,14 +10,14 @@ unfolding most_from rest_of
 loop-n-init c = (omega arith, refl)
 
 pub overflow_add-n : goal.overflow_add-n
-overflow_add-n c = omega (arith, loop-n-smaller c, c.loop-n.invariant.0)
+overflow_add-n c = omega (arith, next_less _ _ _ _ _ c.step_in-x.ensures.is c.in-Parent.is, c.loop-n.invariant.0)
 
 pub loop-n-smaller : goal.loop-n-smaller
 loop-n-smaller c = next_less _ _ _ _ _ c.step_in-x.ensures.is c.in-Parent.is
 
 pub loop-n-preserved : goal.loop-n-preserved
 loop-n-preserved c = (
-      omega (arith, loop-n-smaller c, c.loop-n.invariant.0),
+      omega (arith, next_less _ _ _ _ _ c.step_in-x.ensures.is c.in-Parent.is, c.loop-n.invariant.0),
       sym (count_next _ _ _ _ _ c.step_in-x.ensures.is _ c.in-Parent.is) ∙ c.loop-n.invariant.1,
     )
 

@@ -1,6 +1,8 @@
 -- `steps::edge_rule` meets its contract: each return is the first row of `edgeRule` whose test holds; the early test on k implies the row of 53.
 use Prim.Native.Nat.{◌*◌}
 use native.Mathlib.Omega.{arith}
+use mathlib.Core.Bool.{not}
+use mathlib.Core.Path.{ap}
 use lib.ListN.{length}
 use borrow.Author.Tests.{le-leb}
 use Rattle.words.proofs.Rows.{rows, hit, miss}
@@ -14,7 +16,7 @@ returns-then-not-there c = search rows depth 12
 pub returns-then-edge-k : goal.returns-then-edge-k
 unfolding edge_rule
 returns-then-edge-k c =
-    miss 52 _ _ 53 c.if-not-there.false (hit 53 _ _ (le-leb (length c.args.edge.now) (4 * c.args.k) (omega arith)))
+    miss 52 _ _ 53 (ap not c.if-not-there.false) (hit 53 _ _ (le-leb (length c.args.edge.now) (4 * c.args.k) (omega arith)))
 
 pub returns-then-edge-k-2 : goal.returns-then-edge-k-2
 unfolding edge_rule

@@ -6,45 +6,40 @@ use Rattle.file.specs.declared.Opening.{Opening}
 use Rattle.graph.specs.Chain.{part_at, open_at}
 use Rattle.graph.proofs.Passing.{open_is, part_is, along_room}
 use Rattle.ask.proofs.Looking.{look_begins, look_refused, look_next, look_fits, look_ends}
-use Rattle.ask.proofs.lookup.look.Goals.{After-open-o, After-part-s}
 use Rattle.ask.proofs.lookup.look.Goals as goal
-
--- what was cut in this c.before.before is file k, and so is what was opened
-part_k : (c : After-part-s)
-    → (
-    c.part-s.result.now ≡ part_at c.args.z c.args.chain.now c.args.list.now c.loop-k.k)
-part_k c =
-    part_is _ c.requires _ c.loop-k-test.true c.loop-k.invariant.along.place c.length_at.ensures _ c.part-s.ensures
-
-file_k : (c : After-open-o) {v : Opening} → c.open-o.result ≡ v
-    → (
-    open_at c.args.z c.args.chain.now c.args.list.now c.loop-k.k ≡ v)
-file_k c e = open_is _ _ _ _ (part_k c.before) c.open-o.ensures.is e
 
 pub loop-k-init : goal.loop-k-init
 loop-k-init c = look_begins c.requires _ _ refl
 
 pub returns-in-Refused : goal.returns-in-Refused
 returns-in-Refused c =
+    let part_k : c.part-s.result.now ≡ part_at c.args.z c.args.chain.now c.args.list.now c.loop-k.k =
+        part_is _ c.requires _ c.loop-k-test.true c.loop-k.invariant.along.place c.length_at.ensures _ c.part-s.ensures in
     rw c.of_file.ensures
-    (look_refused c.requires _ c.loop-k.invariant c.loop-k-test.true (file_k c.before.before.before.before c.in-Refused.is))
+    (look_refused c.requires _ c.loop-k.invariant c.loop-k-test.true (open_is _ _ _ _ part_k c.open-o.ensures.is c.in-Refused.is))
 
 pub noted-y-requires : goal.noted-y-requires
 noted-y-requires c =
-    look_fits c.requires _ c.loop-k.invariant c.loop-k-test.true (file_k c.before.before.before c.in-Open.is) _
+    let part_k : c.part-s.result.now ≡ part_at c.args.z c.args.chain.now c.args.list.now c.loop-k.k =
+        part_is _ c.requires _ c.loop-k-test.true c.loop-k.invariant.along.place c.length_at.ensures _ c.part-s.ensures in
+    look_fits c.requires _ c.loop-k.invariant c.loop-k-test.true (open_is _ _ _ _ part_k c.open-o.ensures.is c.in-Open.is) _
 
 pub overflow_add-sum : goal.overflow_add-sum
 overflow_add-sum c =
-    let f_k = file_k c.before.before.before.before.before c.in-Open.is in
+    let part_k : c.part-s.result.now ≡ part_at c.args.z c.args.chain.now c.args.list.now c.loop-k.k =
+        part_is _ c.requires _ c.loop-k-test.true c.loop-k.invariant.along.place c.length_at.ensures _ c.part-s.ensures in
+    let f_k = open_is _ _ _ _ part_k c.open-o.ensures.is c.in-Open.is in
     omega (arith, along_room _ _ _ c.requires _ _ c.loop-k.invariant.along c.loop-k-test.true _ f_k)
 
 pub overflow_add-at : goal.overflow_add-at
 overflow_add-at c =
-    let f_k = file_k c.before.before.before.before.before c.in-Open.is in
+    let part_k : c.part-s.result.now ≡ part_at c.args.z c.args.chain.now c.args.list.now c.loop-k.k =
+        part_is _ c.requires _ c.loop-k-test.true c.loop-k.invariant.along.place c.length_at.ensures _ c.part-s.ensures in
+    let f_k = open_is _ _ _ _ part_k c.open-o.ensures.is c.in-Open.is in
     omega (
       arith,
       along_room _ _ _ c.requires _ _ c.loop-k.invariant.along c.loop-k-test.true _ f_k,
-      ap length (part_k c.before.before.before.before.before.before),
+      ap length part_k,
     )
 
 pub overflow_add-k : goal.overflow_add-k
@@ -57,9 +52,11 @@ loop-k-smaller c =
 
 pub loop-k-preserved : goal.loop-k-preserved
 loop-k-preserved c =
+    let part_k : c.part-s.result.now ≡ part_at c.args.z c.args.chain.now c.args.list.now c.loop-k.k =
+        part_is _ c.requires _ c.loop-k-test.true c.loop-k.invariant.along.place c.length_at.ensures _ c.part-s.ensures in
     rw c.noted-y.ensures
     (look_next c.requires _ c.loop-k.invariant c.loop-k-test.true
-    (file_k c.before.before.before.before.before c.in-Open.is) (part_k c.before.before.before.before.before.before))
+    (open_is _ _ _ _ part_k c.open-o.ensures.is c.in-Open.is) part_k)
 
 pub returns : goal.returns
 returns c =

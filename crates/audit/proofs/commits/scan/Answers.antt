@@ -10,7 +10,7 @@ use Rattle.tries.specs.Tries.{parts_of}
 use Rattle.graph.specs.Chain.{count_at, first_at}
 use Rattle.audit.specs.Scans.{Tabled, Home}
 use Rattle.audit.proofs.Trying.{CommitTold, commit_told, try_begins, try_stops, try_small, try_next, try_ends, try_few}
-use Rattle.audit.proofs.commits.scan.Goals.{After-attempt-t, After-part-ids, In-loop-k}
+use Rattle.audit.proofs.commits.scan.Goals.{After-attempt-t, In-loop-k}
 use Rattle.audit.proofs.commits.scan.Goals as goal
 
 -- there is a commit at hand, and few come before it
@@ -38,12 +38,11 @@ told c z l p h =
     (cut (cuts c.before.before) ∙ ap (λ (b : List ℕ). parts_of b (start (cuts c.before.before)).args.f) (bytes (cuts c.before.before) z l p h)) c.row_in-a.ensures.is
     (c.attempt-t.ensures z l p h)
 
--- the width is narrow
-narrow : (c : After-part-ids) → c.args.f.width < 1000
-narrow c = (opened true _ c.requires.1.1).fitted.narrow
-
 pub overflow_add-w : goal.overflow_add-w
-overflow_add-w c = omega (arith, narrow c)
+overflow_add-w c =
+    let narrow : c.args.f.width < 1000 =
+    (opened true _ c.requires.s_value.1).fitted.narrow in
+    omega (arith, narrow)
 
 pub loop-k-init : goal.loop-k-init
 loop-k-init c. = try_begins z _ l _ b
@@ -67,10 +66,10 @@ overflow_add-counts c =
     )
 
 pub overflow_add-k : goal.overflow_add-k
-overflow_add-k c =  omega (arith, few c.before.before.before.before.before.before.before)
+overflow_add-k c = omega (arith, few c.before.before.before.before.before.before.before)
 
 pub loop-k-smaller : goal.loop-k-smaller
-loop-k-smaller c =  omega (arith, c.loop-k-test.true)
+loop-k-smaller c = omega (arith, c.loop-k-test.true)
 
 pub loop-k-preserved : goal.loop-k-preserved
 loop-k-preserved c =

@@ -30,7 +30,7 @@ returns-then-limit-g c =
 
 pub gen_at-h-requires : goal.gen_at-h-requires
 gen_at-h-requires c =
-    (c.requires, omega (arith, c.if-limit-g.false, next_first c.args.table.now c.args.home))
+    record { home = c.requires; g_bound = omega (arith, c.if-limit-g.false, next_first c.args.table.now c.args.home) }
 
 pub overflow_add-parents : goal.overflow_add-parents
 overflow_add-parents c =

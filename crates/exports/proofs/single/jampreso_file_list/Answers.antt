@@ -6,4 +6,4 @@ use Rattle.exports.proofs.single.jampreso_file_list.Goals as goal
 pub returns : goal.returns
 returns c =
     rw (← c.file_of.ensures)
-    (c.total_flat.ensures ∙ ap flat_total c.list_at.ensures.0.is, c.list_at.ensures.1)
+    (c.total_flat.ensures ∙ ap flat_total c.list_at.ensures.answer.is, c.list_at.ensures.holds)

@@ -6,4 +6,4 @@ use Rattle.exports.proofs.single.jampreso_file_word.Goals as goal
 pub returns : goal.returns
 returns c =
     rw (← c.file_of.ensures, ← c.phase_of.ensures.is)
-    (c.mark_flat.ensures ∙ ap flat_mark c.word_at.ensures.0.is)
+    (c.mark_flat.ensures ∙ ap flat_mark c.word_at.ensures.is.is)

@@ -4,4 +4,4 @@ use Rattle.flat.specs.Images.{flat_found}
 use Rattle.exports.proofs.whole.jampreso_find.Goals as goal
 
 pub returns : goal.returns
-returns c = c.found_flat.ensures ∙ ap flat_found c.find.ensures.0.is
+returns c = c.found_flat.ensures ∙ ap flat_found c.find.ensures.is.is

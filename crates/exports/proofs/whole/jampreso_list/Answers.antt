@@ -5,4 +5,4 @@ use Rattle.exports.proofs.whole.jampreso_list.Goals as goal
 
 pub returns : goal.returns
 returns c =
-    (c.total_flat.ensures ∙ ap flat_total c.list_at.ensures.0.is, c.list_at.ensures.1)
+    record { answer = c.total_flat.ensures ∙ ap flat_total c.list_at.ensures.answer.is; holds = c.list_at.ensures.holds }

@@ -4,4 +4,4 @@ use Rattle.flat.specs.Images.{flat_verification}
 use Rattle.exports.proofs.whole.jampreso_verify.Goals as goal
 
 pub returns : goal.returns
-returns c = c.verification_flat.ensures ∙ ap flat_verification c.verify.ensures.0.is
+returns c = c.verification_flat.ensures ∙ ap flat_verification c.verify.ensures.exact.is

@@ -4,4 +4,4 @@ use Rattle.graph.proofs.survey.file_at.Goals as goal
 
 pub returns : goal.returns
 returns c =
-    part_is _ c.requires.0 _ c.requires.1.0 c.requires.1.1 c.length_at.ensures _ c.part.ensures
+    part_is _ c.requires.listed _ c.requires.k_lt_n.0 c.requires.k_lt_n.1 c.length_at.ensures _ c.part.ensures

@@ -5,34 +5,27 @@ use lib.ListN.{length}
 use Rattle.file.specs.declared.Opening.{Opening}
 use Rattle.graph.specs.Chain.{open_at}
 use Rattle.graph.proofs.Passing.{open_is, pass_begins, pass_refused, pass_next, along_room, pass_ends}
-use Rattle.graph.proofs.survey.pass.Goals.{After-open-o}
 use Rattle.graph.proofs.survey.pass.Goals as goal
-
--- what was opened in this c.before.before is file k
-file_k : (c : After-open-o) {v : Opening} → c.open-o.result ≡ v
-    → (
-    open_at c.args.z c.args.chain.now c.args.list.now c.loop-k.k ≡ v)
-file_k c e = open_is _ _ _ _ c.file_at-s.ensures c.open-o.ensures.is e
 
 pub loop-k-init : goal.loop-k-init
 loop-k-init c = pass_begins _ _ _ c.requires _ _ c.nowhere-mark.ensures
 
 pub file_at-s-requires : goal.file_at-s-requires
-file_at-s-requires c = (c.requires, (c.loop-k-test.true, c.loop-k.invariant.along.place))
+file_at-s-requires c = record { listed = c.requires; k_lt_n = (c.loop-k-test.true, c.loop-k.invariant.along.place) }
 
 pub returns-in-Refused : goal.returns-in-Refused
 returns-in-Refused c =
     rw c.of_file.ensures
-    (pass_refused _ _ _ c.requires c.loop-k.invariant c.loop-k-test.true (file_k c.before.before.before.before c.in-Refused.is))
+    (pass_refused _ _ _ c.requires c.loop-k.invariant c.loop-k-test.true (open_is _ _ _ _ c.file_at-s.ensures c.open-o.ensures.is c.in-Refused.is))
 
 pub overflow_add-next : goal.overflow_add-next
 overflow_add-next c =
-    let f_k = file_k c.before.before.before.before c.in-Open.is in
+    let f_k = open_is _ _ _ _ c.file_at-s.ensures c.open-o.ensures.is c.in-Open.is in
     omega (arith, along_room _ _ _ c.requires _ _ c.loop-k.invariant.along c.loop-k-test.true _ f_k)
 
 pub overflow_add-at : goal.overflow_add-at
 overflow_add-at c =
-    let f_k = file_k c.before.before.before.before.before c.in-Open.is in
+    let f_k = open_is _ _ _ _ c.file_at-s.ensures c.open-o.ensures.is c.in-Open.is in
     omega (
       arith,
       along_room _ _ _ c.requires _ _ c.loop-k.invariant.along c.loop-k-test.true _ f_k,
@@ -51,7 +44,7 @@ pub loop-k-preserved : goal.loop-k-preserved
 loop-k-preserved c =
     rw c.kept-x.ensures
     (pass_next _ _ _ c.requires c.loop-k.invariant c.loop-k-test.true
-    (file_k c.before.before.before.before.before c.in-Open.is) (ap length c.file_at-s.ensures))
+    (open_is _ _ _ _ c.file_at-s.ensures c.open-o.ensures.is c.in-Open.is) (ap length c.file_at-s.ensures))
 
 pub returns : goal.returns
 returns c =

@@ -1,5 +1,5 @@
 -- `hasher::fields::digest` meets its contract. The invariant: i ≤ 5, `out` has 20 bytes, and its first 4i are the bytes of the first i words.
--- The measure is 5 - i. Each turn stores the four bytes of word i (`word-stored`).
+-- The measure is 5 - i. Each turn stores the four bytes of word i (`word_stored`).
 use Rattle.std.proofs.Common.{◌≡◌, ◌-◌, ◌*◌, ◌≤◌, length, take}
 use Rattle.hasher.specs.Message.{bytes}
 use Rattle.hasher.proofs.fields.digest.Given as goal

@@ -13,5 +13,5 @@ stored-kept-requires c = simp length-take (omega arith)
 pub returns : goal.returns
 returns c =
     let a = c.args in
-    let e : length a.t1 ≡ 64 = search rules in
-    rw (c.stored-kept.ensures, pasted a.t1 a.n a.s.now (omega arith) (omega arith)) at c.stored.ensures
+    let e : length a.old ≡ 64 = search rules in
+    rw (c.stored-kept.ensures, pasted a.old a.n a.s.now (omega arith) (omega arith)) at c.stored.ensures

@@ -1,4 +1,4 @@
-use Rattle.std.proofs.Common.{◌≡◌, ◌-◌, length, add-one, arith, rules}
+use Rattle.std.proofs.Common.{◌≡◌, length, add-one, arith, rules}
 use lib.Seq.{paste-zero, paste-suc}
 use borrow.Author.Rules.{rules}
 use Rattle.hasher.proofs.fields.stored.Goals as goal

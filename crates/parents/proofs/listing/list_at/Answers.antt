@@ -27,7 +27,7 @@ pub returns-then-out-n : goal.returns-then-out-n
 unfolding total_by
 returns-then-out-n c =
     let t = list_full _ _ _ _ (counted c.before.before.before.before.before.before c.in-Count.is) c.if-out-n.true in
-    (answers (ap Refused c.at-then-out-n.ensures ∙ t.0), t.1)
+    record { answer = answers (ap Refused c.at-then-out-n.ensures ∙ t.0); holds = t.1 }
 
 pub returns-in-Refused : goal.returns-in-Refused
 returns-in-Refused c =

@@ -9,4 +9,4 @@ pub returns : goal.returns
 returns c =
     let w = c.word-next.ensures in
     let few = dec_length c.args.n (search rules) in
-    w then puts 20 _ _ _ (omega (arith, w.place, w.size)) few c.number.ensures.0 c.number.ensures.1
+    w then puts 20 _ _ _ (omega (arith, w.place, w.size)) few c.number.ensures.place c.number.ensures.holds

@@ -5,4 +5,4 @@ use Rattle.report.proofs.lines.word.Goals as goal
 
 pub returns : goal.returns
 returns c =
-    puts _ _ _ _ c.requires (le_refl _) c.put.ensures.0 c.put.ensures.1
+    puts _ _ _ _ c.requires (le_refl _) c.put.ensures.place c.put.ensures.holds
