@@ -1,6 +1,5 @@
 pub mod Steps
 pub mod Lists
-pub mod Doors
 pub mod Following
 pub mod Saying
 pub mod Results

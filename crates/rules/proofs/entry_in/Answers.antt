@@ -22,7 +22,7 @@ overflow_mul-i c =
     let wide : known c.args.w ≡ true =
     sym c.known.ensures ∙ c.if-not-known.false in
     let small : ( (c.args.c * c.args.w < 2 ^ 63) × ((20 ≤ c.args.w) × (c.args.w ≤ 32))) =
-    (small_ids _ wide (omega arith), width_bounds _ wide) in
+    (small_ids _ wide c.args.c (omega arith), width_bounds _ wide) in
     omega (arith, small)
 
 pub overflow_add-i : goal.overflow_add-i
@@ -30,7 +30,7 @@ overflow_add-i c =
     let wide : known c.args.w ≡ true =
     sym c.known.ensures ∙ c.if-not-known.false in
     let small : ( (c.args.c * c.args.w < 2 ^ 63) × ((20 ≤ c.args.w) × (c.args.w ≤ 32))) =
-    (small_ids _ wide (omega arith), width_bounds _ wide) in
+    (small_ids _ wide c.args.c (omega arith), width_bounds _ wide) in
     omega (arith, small)
 
 pub returns-then-ids-i : goal.returns-then-ids-i
@@ -62,7 +62,7 @@ bounds-ids-i c =
     let wide : known c.args.w ≡ true =
     sym c.known.ensures ∙ c.if-not-known.false in
     let small : ( (c.args.c * c.args.w < 2 ^ 63) × ((20 ≤ c.args.w) × (c.args.w ≤ 32))) =
-    (small_ids _ wide (omega arith), width_bounds _ wide) in
+    (small_ids _ wide c.args.c (omega arith), width_bounds _ wide) in
     omega (arith, small)
 
 pub returns-then-b-gt0 : goal.returns-then-b-gt0

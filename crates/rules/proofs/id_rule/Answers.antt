@@ -1,4 +1,6 @@
 -- `rules::id_rule` meets its contract: 64 where the id is 0, 65 where it is not above the id before it, which the first id has none of.
+use mathlib.Core.Bool.{not}
+use mathlib.Core.Path.{ap}
 use native.Mathlib.Omega.{arith}
 use Rattle.rules.proofs.Entries.{one_back, id_zero, id_first, id_order, id_fine}
 use Rattle.rules.proofs.id_rule.Goals as goal
@@ -14,12 +16,12 @@ overflow_sub-at c =
 pub returns-then-not-above : goal.returns-then-not-above
 returns-then-not-above c =
     id_order _ _ _ _ c.requires.1 c.part-id.ensures c.zero.ensures c.if-zero.false
-    c.if-c-gt0.true c.above.ensures c.if-not-above.true
+    c.if-c-gt0.true c.above.ensures (ap not c.if-not-above.true)
 
 pub returns-else-not-above : goal.returns-else-not-above
 returns-else-not-above c =
     id_fine _ _ _ _ c.requires.1 c.part-id.ensures c.zero.ensures c.if-zero.false
-    c.if-c-gt0.true c.above.ensures c.if-not-above.false
+    c.if-c-gt0.true c.above.ensures (ap not c.if-not-above.false)
 
 pub returns-else-c-gt0 : goal.returns-else-c-gt0
 returns-else-c-gt0 c =

@@ -5,40 +5,50 @@ use Rattle.types.specs.Width.{known}
 use Rattle.words.proofs.Rows.{rows}
 use Rattle.rules.specs.Rules.{name_rule, name_in, trailing}
 use Rattle.rules.proofs.Trailers.{name_out, name_there}
-use Rattle.rules.proofs.name_in.Goals.{Else-count-k}
 use borrow.Author.Rules.{rules}
 use Rattle.rules.proofs.name_in.Goals as goal
-
--- the record is in the list: what the trailer's rules say is the answer
-listed : (c : Else-count-k) {r : ℕ}
-    → (let a = c.args in
-    r ≡ trailing a.w a.s.now (name_rule a.w a.z a.list.now a.k a.s.now)
-    → r ≡ name_in a.w a.z a.list.now a.k a.s.now)
-listed c e = name_there _ _ _ _ _ c.count.ensures c.if-count-k.false e
 
 pub returns-then-count-k : goal.returns-then-count-k
 returns-then-count-k c = name_out _ _ _ _ _ c.count.ensures c.if-count-k.true
 
 pub returns-then-w-ne20 : goal.returns-then-w-ne20
 unfolding name_rule trailing known
-returns-then-w-ne20 c = listed c.before (search (rows, c.if-w-ne20.true) depth 30)
+returns-then-w-ne20 c =
+    let a = c.args in
+    let t : ◌≡◌ {A = ℕ} 40 (trailing a.w a.s.now (name_rule a.w a.z a.list.now a.k a.s.now)) = search (rows, c.if-w-ne20.true) depth 30 in
+    name_there _ _ _ _ _ c.count.ensures c.if-count-k.false t
 
 pub returns-then-s-w : goal.returns-then-s-w
 unfolding name_rule trailing known
-returns-then-s-w c = listed c.before.before (search rows depth 30)
+returns-then-s-w c =
+    let a = c.args in
+    let t : ◌≡◌ {A = ℕ} 40 (trailing a.w a.s.now (name_rule a.w a.z a.list.now a.k a.s.now)) = search rows depth 30 in
+    name_there _ _ _ _ _ c.count.ensures c.if-count-k.false t
 
 pub returns-then-kind-eq2 : goal.returns-then-kind-eq2
 unfolding name_rule trailing known
-returns-then-kind-eq2 c = listed c.before.before.before.before (search rows depth 30)
+returns-then-kind-eq2 c =
+    let a = c.args in
+    let t : ◌≡◌ {A = ℕ} 63 (trailing a.w a.s.now (name_rule a.w a.z a.list.now a.k a.s.now)) = search rows depth 30 in
+    name_there _ _ _ _ _ c.count.ensures c.if-count-k.false t
 
 pub returns-then-other : goal.returns-then-other
 unfolding name_rule trailing known
-returns-then-other c = listed c.before.before.before.before.before.before.before (search (rows, c.if-kind-eq2.false) depth 30)
+returns-then-other c =
+    let a = c.args in
+    let t : ◌≡◌ {A = ℕ} 63 (trailing a.w a.s.now (name_rule a.w a.z a.list.now a.k a.s.now)) = search (rows, c.if-kind-eq2.false) depth 30 in
+    name_there _ _ _ _ _ c.count.ensures c.if-count-k.false t
 
 pub returns-else-other : goal.returns-else-other
 unfolding name_rule trailing known
-returns-else-other c = listed c.before.before.before.before.before.before.before (search (rows, c.if-kind-eq2.false) depth 30)
+returns-else-other c =
+    let a = c.args in
+    let t : ◌≡◌ {A = ℕ} 0 (trailing a.w a.s.now (name_rule a.w a.z a.list.now a.k a.s.now)) = search (rows, c.if-kind-eq2.false) depth 30 in
+    name_there _ _ _ _ _ c.count.ensures c.if-count-k.false t
 
 pub returns-else-kind-eq1 : goal.returns-else-kind-eq1
 unfolding name_rule trailing known
-returns-else-kind-eq1 c = listed c.before.before.before.before.before (search (rows, c.if-kind-eq1.false, c.if-kind-eq2.false) depth 30)
+returns-else-kind-eq1 c =
+    let a = c.args in
+    let t : ◌≡◌ {A = ℕ} 0 (trailing a.w a.s.now (name_rule a.w a.z a.list.now a.k a.s.now)) = search (rows, c.if-kind-eq1.false, c.if-kind-eq2.false) depth 30 in
+    name_there _ _ _ _ _ c.count.ensures c.if-count-k.false t

@@ -1,8 +1,8 @@
 -- `rules::sum_in` meets its contract: each return is the row of the trailer's table that its tests name; the digest is compared with the trailer (`sum_said`).
-use mathlib.Core.Bool.{true, false}
-use mathlib.Core.Path.{refl, ◌∙◌}
+use mathlib.Core.Bool.{not}
+use mathlib.Core.Path.{refl, sym, ap, ◌∙◌}
 use native.Mathlib.Omega.{arith}
-use Rattle.words.proofs.Rows.{hit, miss, not_via}
+use Rattle.words.proofs.Rows.{hit, miss}
 use Rattle.rules.specs.Rules.{sum_rule, sum_in}
 use Rattle.rules.proofs.Trailers.{trailer_strange, trailer_short, trailer_there, sum_said}
 use Rattle.rules.proofs.sum_in.Goals as goal
@@ -18,11 +18,11 @@ returns-then-s-w c = trailer_short _ _ _ c.if-w-ne20.false c.if-s-w.true
 pub returns-then-not-same : goal.returns-then-not-same
 unfolding sum_in sum_rule
 returns-then-not-same c =
-    hit 62 _ 0 (not_via _ _ true (sum_said _ (omega arith) c.digest-d.ensures c.same.ensures) c.if-not-same.true)
+    hit 62 _ 0 (ap not (sym (sum_said _ (omega arith) c.digest-d.ensures c.same.ensures) ∙ c.if-not-same.true))
     ∙ trailer_there _ _ _ c.if-w-ne20.false c.if-s-w.false
 
 pub returns : goal.returns
 unfolding sum_in sum_rule
 returns c =
-    miss 62 _ 0 0 (not_via _ _ false (sum_said _ (omega arith) c.digest-d.ensures c.same.ensures) c.if-not-same.false)
+    miss 62 _ 0 0 (ap not (sym (sum_said _ (omega arith) c.digest-d.ensures c.same.ensures) ∙ c.if-not-same.false))
     refl ∙ trailer_there _ _ _ c.if-w-ne20.false c.if-s-w.false
