@@ -1,4 +1,4 @@
--- `marks::place` meets its contract: a step that answers a parent has its word in the file (`step-word`), so that no place wraps.
+-- `marks::place` meets its contract: a step that answers a parent has its word in the file (`step_word`), so that no place wraps.
 use mathlib.Core.Path.{subst, ◌∙◌}
 use native.Mathlib.Omega.{arith}
 use Rattle.steps.specs.declared.Phase.{Phase}

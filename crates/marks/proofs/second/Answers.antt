@@ -1,4 +1,4 @@
--- `marks::second` meets its contract: the commit that was read is the row (`row`), and its second word is the row of `secondAt`.
+-- `marks::second` meets its contract: the commit that was read is the row (`row`), and its second word is the row of `second_at`.
 -- A step that answers a parent was asked of a commit that is there, so that the refusal cannot be.
 use mathlib.Core.Path.{◌≡◌, ◌∙◌}
 use native.Mathlib.Omega.{arith}

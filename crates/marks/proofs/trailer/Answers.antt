@@ -1,4 +1,4 @@
--- `marks::trailer` meets its contract: each return is the way through `checkOf` that the two sizes and the sum name.
+-- `marks::trailer` meets its contract: each return is the way through `check_of` that the two sizes and the sum name.
 use mathlib.Core.Path.{ap, ◌∙◌}
 use Rattle.types.proofs.Saying.{answers}
 use Rattle.marks.specs.declared.Checked.TheVariants.{Refused}

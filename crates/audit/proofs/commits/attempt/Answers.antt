@@ -10,8 +10,8 @@ meet-t-requires c = c.requires
 pub returns-then-t-gt0 : goal.returns-then-t-gt0
 unfolding tried_of
 returns-then-t-gt0 c =
-    let row = c.a-in-Commit-1.given in
-    λ z l p h. c.stopped-then-t-gt0.ensures ∙ rw (row.1, ← c.meet-t.ensures z l p h) (tried_walk _ row.0.0.generation c.if-t-gt0.true)
+    λ z l p h. c.stopped-then-t-gt0.ensures ∙ rw (c.in-Commit.is, ← c.meet-t.ensures z l p h)
+    (tried_walk _ c.in-Commit.x.generation c.if-t-gt0.true)
 
 pub returns-then-x-right : goal.returns-then-x-right
 unfolding tried_of

@@ -10,8 +10,9 @@ use Rattle.audit.proofs.commits.scan.Given as goal
 
 abbrev pub invariant-loop-k : goal.invariant-loop-k
 invariant-loop-k l =
-    (z : ℕ) (l : List ℕ) → Tabled z l.chain l l.table → l.i < records_of z l → Before z l.chain l l.i (record { l.counts = l.initial.counts; l.highest = l.initial.highest })
-    → Trying z l.chain l l.i l.k l.highest l.counts
+    (z : ℕ) (list : List ℕ) → Tabled z l.chain list l.table → l.i < records_of z list
+    → Before z l.chain list l.i (record { counts = l.initial.counts; highest = l.initial.highest })
+    → Trying z l.chain list l.i l.k l.highest l.counts
 
 abbrev pub decreases-loop-k : goal.decreases-loop-k
 decreases-loop-k l = l.n - l.k

@@ -1,11 +1,11 @@
 use mathlib.Core.Path.{refl, ◌∙◌}
-use mathlib.Core.Logic.{⊎_elim}
 use native.Mathlib.Omega.{arith}
 use Rattle.steps.specs.Walks.{rest_of}
 use Rattle.steps.proofs.Walking.{most_from, rest_parent, rest_stop, rest_end, next_less}
 use Rattle.audit.proofs.Tabling.{row_room, next_limit, next_first}
 use Rattle.audit.proofs.Meeting.{met_end, met_out, met_in}
 use Rattle.audit.proofs.meets.meet.Goals as goal
+use Rattle.audit.proofs.meets.meet.Goals.{then-highest-h, else-highest-h}
 
 pub overflow_mul-limit : goal.overflow_mul-limit
 overflow_mul-limit c = let home = c.requires in omega (arith, row_room _ _ _ home.tabled _ home.below)
@@ -38,7 +38,7 @@ overflow_add-parents c =
       arith,
       next_less _ _ _ _ _ c.step_in-x.ensures.is c.in-Parent.is,
       c.loop-q.invariant.1,
-      c.well-formed.1.1.1.1.1.0,
+      c.well_formed.1.1.1.1.1.0,
     )
 
 pub loop-q-smaller : goal.loop-q-smaller
@@ -51,7 +51,7 @@ loop-q-preserved c =
       λ z l p h. let g = c.gen_at-h.ensures z l p h in
           met_in _ _ _ _ _ _ _ (rest_parent _ _ _ _ _ x.ensures.is c.in-Parent.is)
           (omega (arith, c.if-limit-g.false, next_limit z _ l p _ h))
-          (⊎_elim (λ w. omega arith) (λ w. omega arith) c.if-highest-h.branch) ∙ c.loop-q.invariant.0 z l p h,
+          (elim c.if-highest-h.branch [ then-highest-h w ↦ omega arith | else-highest-h w ↦ omega arith ]) ∙ c.loop-q.invariant.0 z l p h,
       omega (arith, next_less _ _ _ _ _ x.ensures.is c.in-Parent.is, c.loop-q.invariant.1),
     )
 

@@ -14,9 +14,9 @@ use Rattle.audit.proofs.meets.meet.Given as goal
 
 abbrev pub invariant-loop-q : goal.invariant-loop-q
 invariant-loop-q l =
-    ((z : ℕ) (l : List ℕ) → Tabled z l.chain l l.table → l.home < records_of z l
-    → met_of (first_at z l.chain l (l.home + 1)) (gen_at z l.chain l) (rest_of l.first l.second l.there l.edge l.phase) l.parents l.highest
-    ≡ met_of (first_at z l.chain l (l.home + 1)) (gen_at z l.chain l) (first_walk l.first l.second l.there l.edge) 0 0)
+    ((z : ℕ) (list : List ℕ) → Tabled z l.chain list l.table → l.home < records_of z list
+    → met_of (first_at z l.chain list (l.home + 1)) (gen_at z l.chain list) (rest_of l.first l.second l.there l.edge l.phase) l.parents l.highest
+    ≡ met_of (first_at z l.chain list (l.home + 1)) (gen_at z l.chain list) (first_walk l.first l.second l.there l.edge) 0 0)
     × (l.parents + most_from l.edge l.phase ≤ words_in l.edge + 3)
 
 abbrev pub decreases-loop-q : goal.decreases-loop-q

@@ -1,4 +1,4 @@
--- `walk::listing::in_file` meets its contract: each case of the total is the row of `totalIn` that it names.
+-- `walk::listing::in_file` meets its contract: each case of the total is the row of `total_in` that it names.
 use Rattle.walk.specs.Lists.{total_in}
 use Rattle.walk.proofs.listing.in_file.Goals as goal
 
