@@ -86,12 +86,16 @@ scan-r-requires c =
     let p = c.requires.tabled in
     let cut : c.part-s.result.now ≡ part_at c.args.z c.args.chain.now c.args.list.now c.loop-i.i =
     part_is _ p.listed _ here (p.start _ (omega (arith, here))) (omega (arith, table_length _ _ _ p _ here)) _ c.part-s.ensures in
-    record { starts = record { home = record { z = _; l = _; tabled = p; below = here }; before = c.loop-i.invariant.before }; s_value = (cut ∙ sym (part_by_lem _ _ _ p _ here), sym c.«open».ensures.is ∙ c.in-Open.is) }
+    record {
+      starts = record { home = record { z = _; l = _; tabled = p; below = here }; before = c.loop-i.invariant.before };
+      s_value = (cut ∙ sym (part_by_lem _ _ _ p _ here), sym c.«open».ensures.is ∙ c.in-Open.is);
+    }
 
 pub returns-then-r-gt0 : goal.returns-then-r-gt0
 returns-then-r-gt0 c =
     let here : c.loop-i.i < records_of c.args.z c.args.list.now = omega (arith, c.loop-i-test.true, c.requires.n_value.0) in
-    let scanned : ScannedAs c.args.z c.args.chain.now c.args.list.now c.loop-i.i c.scan-r.result = c.scan-r.ensures _ _ c.requires.tabled here c.loop-i.invariant.before in
+    let scanned : ScannedAs c.args.z c.args.chain.now c.args.list.now c.loop-i.i c.scan-r.result =
+    c.scan-r.ensures _ _ c.requires.tabled here c.loop-i.invariant.before in
     rw (c.refused-then-r-gt0.ensures, c.of_file-then-r-gt0.ensures, c.at-then-r-gt0.ensures)
     (filing_commit _ _ _ _ _ c.loop-i.invariant c.loop-i-test.true c.head-h.ensures c.if-h-gt0.false
     scanned c.if-r-gt0.true)
@@ -107,7 +111,8 @@ loop-i-smaller c = omega (arith, c.loop-i-test.true)
 pub loop-i-preserved : goal.loop-i-preserved
 loop-i-preserved c =
     let here : c.loop-i.i < records_of c.args.z c.args.list.now = omega (arith, c.loop-i-test.true, c.requires.n_value.0) in
-    let scanned : ScannedAs c.args.z c.args.chain.now c.args.list.now c.loop-i.i c.scan-r.result = c.scan-r.ensures _ _ c.requires.tabled here c.loop-i.invariant.before in
+    let scanned : ScannedAs c.args.z c.args.chain.now c.args.list.now c.loop-i.i c.scan-r.result =
+    c.scan-r.ensures _ _ c.requires.tabled here c.loop-i.invariant.before in
     filing_next _ _ _ _ _ c.loop-i.invariant c.loop-i-test.true c.head-h.ensures c.if-h-gt0.false
     scanned c.if-r-gt0.false
 
