@@ -1,4 +1,4 @@
-//! Where the port's static library lies: the folder that EXPORTS names, or the one that `rt staticlib` writes to.
+//! Where the port's static library lies: the folder that EXPORTS names, or the one that crates/exports/build fills.
 
 fn main() {
     let folder = std::env::var("EXPORTS").unwrap_or_else(|_| format!("{}/../target/staticlib", env!("CARGO_MANIFEST_DIR")));

@@ -1,8 +1,8 @@
 """For each public function of the library, the lines that show: any two results that its promise allows on the same arguments are equal.
 
 Makes crates/NAME/proofs/Results.antt from the sources. A lemma is stated over the promise as the function's caller learns it
-(`Reads.Learnt`, which the prover makes of the contract itself), so nothing of a contract is written twice. With --check nothing is
-written, and a file that differs, or a public function that has no lemma and no row in docs/EXCEPTIONS.md, is told and fails.
+(`Reads.Learnt`, which the prover makes of the contract itself), so nothing of a contract is written twice. Where a function only writes to
+a stream, any two results are equal that are no errors (`DeterminedOk`). With --check nothing is written, and a file that differs, or a public function that has no lemma and no row in docs/EXCEPTIONS.md, is told and fails.
 """
 import re
 import sys
@@ -10,10 +10,19 @@ from pathlib import Path
 
 CRATES = Path("crates")
 EXCEPTIONS = Path("docs/EXCEPTIONS.md")
-HEAD = "-- Any two results that a public function's promise allows on the same arguments are equal. Made by tests/results.py.\n"
+HEAD = "-- Any two results that a public function's promise allows on the same arguments are equal%s. Made by tests/results.py.\n"
 RESERVED = {"open": "«open»"}
-# proved by a walk by hand, for which there is no `Reads`: the crate's own file of this name has the lemma
+# a promise of another form than those below: the crate's own file of this name has the lemma
 BY_HAND = {("walk", "next_parent"): "Steps"}
+# what a lemma on a function over any stream takes before its arguments, and where these names come from
+STREAM = "(t : RattleType) (l : Laws t) (g : Ghosts t.Denot) (b : Dict)"
+STREAM_USES = """use Rattle.std.proofs.Common.{refl}
+use denote.Param.Laws.{Laws}
+use denote.RattleType.{RattleType}
+use mir.Syntax.{Dict}
+use Rattle.std.specs.declared.io.traits.Write.{Ghosts}
+use Rattle.prints.proofs.Done.{DeterminedOk}
+"""
 
 
 def sources(crate):
@@ -29,7 +38,7 @@ def public(text):
     kind = None
     lines = text.split("\n")
     for at, line in enumerate(lines):
-        m = re.match(r"impl (\w+)", line)
+        m = re.match(r"impl(?:<[^>]*>)? (?:\w+ for )?(\w+)", line)
         if m:
             kind = m.group(1)
         elif line.startswith("}"):
@@ -38,7 +47,7 @@ def public(text):
         if not m:
             continue
         end = at
-        while not (lines[end] == m.group(1) + "{" or lines[end].endswith(") {") or re.search(r"-> [^{⌜]* \{$", lines[end])):
+        while not (lines[end] == m.group(1) + "{" or lines[end].endswith(") {") or re.search(r"-> [^{]* \{$", lines[end])):
             end += 1
         whole = "\n".join(lines[at : end + 1])
         yield kind, m.group(2), whole
@@ -59,75 +68,93 @@ def parameters(whole):
     return [p for p in out + [word.strip()] if p]
 
 
+def ensured(whole):
+    """What each ensures says, between its braces."""
+    for m in re.finditer(r"\bensures\*?(?: \w+)? \{", whole):
+        depth, end = 1, m.end()
+        while depth:
+            depth += (whole[end] == "{") - (whole[end] == "}")
+            end += 1
+        yield whole[m.end() : end - 1].strip()
+
+
 def place(i, n):
     """Where clause i of n lies in what is learnt."""
-    return "" if n == 1 else " .1" * i + (" .0" if i < n - 1 else "")
+    return "" if n == 1 else ".1" * i + (".0" if i < n - 1 else "")
 
 
 def lemmas(name, whole):
     """Each lemma of a function: its ending, its statement and its proof; none where the promise determines nothing."""
     result = re.search(r"\) -> (.*?)(?:\n| \{|$)", whole)
     part = result is not None and result.group(1).startswith("&")
-    clauses = re.findall(r"ensures(?: \w+)? \{ λ (\w+)\. (?:do )?⌜ (.*?) ⌝ \}", whole, re.S)
+    clauses = list(ensured(whole))
     n = len(clauses)
     if result is None and n == 0:
         return [("determined", "Determined {}", "refl")]
+    if n == 0 and result.group(1) == "io::Result<()>" and re.match(r"\s*pub fn \w+<W: Write>\(", whole):
+        return [("determined", "DeterminedOk", "refl")]
     out = []
-    for i, (r, claim) in enumerate(clauses):
+    for i, claim in enumerate(clauses):
         at = place(i, n)
         for k, fact in enumerate(re.split(r"\)\s*× \(", claim.strip("()")) if claim.startswith("(") else [claim]):
-            here = at + (f" .{k}" if claim.startswith("(") else "")
-            p, q = (f"(p{here})", f"(q{here})") if here else ("p", "q")
-            if "determined" in [x[0] for x in out] and not fact.startswith("now ("):
+            here = at + (f".{k}" if claim.startswith("(") else "")
+            p, q = f"p{here}", f"q{here}"
+            held = re.match(r"(\w+)\.new ≡ ", fact)
+            if "determined" in [x[0] for x in out] and not held:
                 continue
             if part and re.match(r"(RecordsOf|AskedPart|IdPart|TreePart) ", fact):
-                out.append(("determined", "DeterminedPart {}", f"same-part {p} {q}"))
-            elif fact.startswith(f"Answers ") and fact.split()[2] == r:
-                out.append(("determined", "Determined {}", f"same (p{here} .is) (q{here} .is)"))
-            elif fact.startswith(f"{r} ≡ "):
+                out.append(("determined", "DeterminedPart {}", f"same_part {p} {q}"))
+            elif fact.startswith("Answers ") and fact.split()[2] == "result":
+                out.append(("determined", "Determined {}", f"same {p}.is {q}.is"))
+            elif fact.startswith("result ≡ "):
                 out.append(("determined", "Determined {}", f"same {p} {q}"))
-            else:
-                m = re.match(r"now \((\w+) \.exit\) ≡ ", fact)
-                if m:
-                    which = [p.split(":")[0].strip() for p in parameters(whole)].index(m.group(1))
-                    last = " .1" * which + " .0"
-                    out.append(("held", f"DeterminedHeld (λ κs e. now (e{last})) {{}}", f"same {p} {q}"))
+            elif held:
+                which = [x.split(":")[0].strip() for x in parameters(whole)].index(held.group(1))
+                out.append(("held", f"DeterminedHeld (λ κs e. e{'.1' * which}.0.now) {{}}", f"same {p} {q}"))
     return out
+
+
+def short_names(file):
+    """The names that a file which stands has for the modules that it uses. They stay: to spell one anew would have all that stands above proved anew."""
+    text = file.read_text() if file.exists() else ""
+    return dict(re.findall(r"(?m)^use (\S+\.Reads) as (\S+)$", text))
 
 
 def page(crate):
     """The text of a crate's Results.antt, and the functions that it cannot speak of."""
-    uses, body, missing, seen = [], [], [], set()
+    uses, body, missing, seen, given = [], [], [], set(), short_names(crate / "proofs/Results.antt")
     for path, text in sources(crate):
         for kind, name, whole in public(text):
             if (crate.name, name) in BY_HAND:
                 hand = crate / f"proofs/{BY_HAND[crate.name, name]}.antt"
-                if f"pub {name.replace('_', '-')}-determined :" not in hand.read_text():
+                if not re.search(rf"(?m)^(?:abbrev )?pub {name}_determined :", hand.read_text()):
                     missing.append((path, name))
                 continue
             found = lemmas(name, whole)
-            if "held" not in [x[0] for x in found] and "&mut" in whole.split("ensures")[0]:
+            if "held" not in [x[0] for x in found] and "&mut" in whole.split("ensures")[0] and "DeterminedOk" not in [x[1] for x in found]:
                 found = []  # what it leaves in what it was lent has no equation
             if "determined" not in [x[0] for x in found] and ") ->" in whole or not found:
                 missing.append((path, name))
                 continue
-            short = name.replace("_", "-")
+            short = name
             if short in seen:
-                short = "-".join(path) + "-" + short
+                short = "_".join([*path, name])
             seen.add(short)
-            alias = RESERVED.get(short, short)
-            module = ".".join([*path, *([kind] if kind else []), name])
-            uses.append(f"use Rattle·{crate.name}·proofs.proofs.{module}.Reads as {alias}\n")
+            module = ".".join([f"Rattle.{crate.name}.proofs", *path, *([kind] if kind else []), name, "Reads"])
+            alias = given.get(module, RESERVED.get(short, short))
+            uses.append(f"use {module} as {alias}\n")
             for ending, claim, proof in found:
-                body.append(f"\npub {short}-{ending} : {claim.format(alias + '.Learnt')}\n{short}-{ending} κs a y z d e p q = {proof}\n")
+                before, first = ("", "") if claim != "DeterminedOk" else (f"{STREAM} → ", "t l g b ")
+                said = claim.format(alias + ".Learnt") if not first else f"DeterminedOk ({alias}.Learnt t l g b)"
+                body.append(f"\npub {short}_{ending} : {before}{said}\n{short}_{ending} {first}κs a y z d e p q = {proof}\n")
     if not body:
         return None, missing
     words = "".join(body)
-    names = [x for x in ("same", "same-part", "Determined", "DeterminedPart", "DeterminedHeld") if re.search(rf"(?<![\w-]){x}(?![\w-])", words)]
-    own = "·proofs" if crate.name == "words" else ""
-    first = "use mathlib.Core.Path.{refl}\n" if " = refl\n" in words else ""
-    first += "use denote.Ref.{now}\n" if "now (" in words else ""
-    return HEAD + first + f"use Rattle·words{own}.proofs.Determined.{{{', '.join(names)}}}\n" + "".join(uses) + words, missing
+    names = [x for x in ("same", "same_part", "Determined", "DeterminedPart", "DeterminedHeld") if re.search(rf"(?<![\w-]){x}(?![\w-])", words)]
+    streams = STREAM in words
+    first = STREAM_USES if streams else "use mathlib.Core.Path.{refl}\n" if " = refl\n" in words else ""
+    first += f"use Rattle.words.proofs.Determined.{{{', '.join(names)}}}\n" if names else ""
+    return HEAD % (", where no write fails" if streams else "") + first + "".join(uses) + words, missing
 
 
 def main():

@@ -12,85 +12,85 @@ use cases::record::{read, room};
 use cases::step::phase_of;
 use file::init::open;
 use file::{File, Opening};
-use lines::lines;
 use prints::print::{number, print, refusal};
-use seek::seek;
+use std::io;
+use std::io::{BufReader, BufWriter, Read, Write};
 use types::file::Position;
-use walk::step;
 use words::big::{be32, be64};
 
 // Ends the line of a check: `first` is the first commit of `n` that it found bad, or `n`.
-fn print_checked(first: u32, n: u32) {
+fn print_checked<W: Write>(out: &mut W, first: u32, n: u32) -> io::Result<()> {
     if first < n {
-        print(b" BAD");
-        number(first as u64);
+        print(out, b" BAD")?;
+        number(out, first as u64)?;
     } else {
-        print(b" OK");
+        print(out, b" OK")?;
     }
-    print(b"\n");
+    print(out, b"\n")
 }
 
-fn answer_file(s: &[u8], f: File) {
-    let counted = lines(s, f);
-    let sought = seek(s, f);
-    print(b"lookup");
-    print_checked(sought, f.commits);
-    print(b"counts");
-    print_checked(counted, f.commits);
+fn answer_file<W: Write>(out: &mut W, s: &[u8], f: File) -> io::Result<()> {
+    let counted = lines::lines(out, s, f)?;
+    let sought = seek::seek(s, f);
+    print(out, b"lookup")?;
+    print_checked(out, sought, f.commits)?;
+    print(out, b"counts")?;
+    print_checked(out, counted, f.commits)
 }
 
-fn answer_open(s: &[u8]) {
-    let o = open(s);
-    match o {
-        Opening::Open(f) => answer_file(s, f),
+fn answer_open<W: Write>(out: &mut W, s: &[u8]) -> io::Result<()> {
+    match open(s) {
+        Opening::Open(f) => answer_file(out, s, f),
         Opening::Refused(r) => {
-            refusal(r);
-            print(b"\n");
+            refusal(out, r)?;
+            print(out, b"\n")
         }
     }
 }
 
-fn answer_step(s: &[u8]) -> bool {
+fn answer_step<W: Write>(out: &mut W, s: &[u8]) -> io::Result<bool> {
     if s.len() < 13 {
-        return false;
+        return Ok(false);
     }
     let pos = Position(be32(s, 0));
     let phase = phase_of(s[4], be64(s, 5) as usize);
     let file = &s[13..];
-    let o = open(file);
-    match o {
-        Opening::Open(f) => step(file, f, pos, phase),
-        Opening::Refused(r) => refusal(r),
+    match open(file) {
+        Opening::Open(f) => walk::step(out, file, f, pos, phase)?,
+        Opening::Refused(r) => refusal(out, r)?,
     }
-    print(b"\n");
-    true
+    print(out, b"\n")?;
+    Ok(true)
 }
 
 // Answers one record. Says whether its kind is known.
-fn answer(kind: u8, s: &[u8]) -> bool {
+fn answer<W: Write>(out: &mut W, kind: u8, s: &[u8]) -> io::Result<bool> {
     match kind {
-        b'g' => answer_open(s),
-        b's' => return answer_step(s),
-        _ => return false,
+        b'g' => answer_open(out, s)?,
+        b's' => return answer_step(out, s),
+        _ => return Ok(false),
     }
-    true
+    Ok(true)
 }
 
 // Reads one record and answers it. Says whether there may be more.
-fn record() -> bool {
+fn record<R: Read, W: Write>(from: &mut R, out: &mut W) -> io::Result<bool> {
     let mut bytes = room();
-    let r = read(&mut bytes);
+    let r = read(from, &mut bytes)?;
     if !r.there {
-        return false;
+        return Ok(false);
     }
-    let n = r.size;
-    answer(r.kind, &bytes[..n])
+    answer(out, r.kind, &bytes[..r.size])
 }
 
 // The turns are counted, for nothing says that the input ends.
-fn main() {
-    let mut turns = u64::MAX;
-    while turns > 0 && record() {
-        turns -= 1;
+fn main(rt: HostRuntime) -> io::Result<()> {
+    let mut from = BufReader::new(rt.alloc(), rt.reader())?;
+    let mut out = BufWriter::new(rt.alloc(), io::writer(&rt))?;
+    for _ in 0..u64::MAX {
+        if !record(&mut from, &mut out)? {
+            break;
+        }
     }
+    out.flush()
 }

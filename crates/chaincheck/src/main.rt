@@ -4,8 +4,10 @@
 
 ghost use Rattle.std.specs.Prelude.{◌≡◌, length};
 
-use libc::{STDIN_FILENO, STDOUT_FILENO};
+use cases::record::fill;
 use report::report;
+use std::io;
+use std::io::Write;
 
 // Zeros for the largest input that can be read, 4 + 12,288 + 49,152 bytes, and one byte more. Nothing behind it changes the answer.
 fn room() -> [u8; 61445]
@@ -14,10 +16,10 @@ fn room() -> [u8; 61445]
     [0; 61445]
 }
 
-fn main() {
+fn main(rt: HostRuntime) -> io::Result<()> {
     let mut input = room();
-    let n = io::read_full(STDIN_FILENO, &mut input);
-    let mut out = io::buffer();
+    let n = fill(&mut rt.reader(), &mut input)?;
+    let mut out = [0u8; 4096];
     let size = report(&input[..n], &mut out);
-    io::write_all(STDOUT_FILENO, &out[..size]);
+    io::writer(&rt).write_all(&out[..size])
 }

@@ -7,16 +7,16 @@
 // What it reads and what it must print is made by `python3 tests/chains.py crates/chains`.
 #![tactic(auto)]
 
-mod list;
+mod listed;
 mod show;
 mod step;
 mod whole;
 
 use cases::record::{read, room};
-use list::lists;
+use listed::lists;
 use show::{found, positions};
-use step::steps;
-use whole::whole;
+use std::io;
+use std::io::{BufReader, BufWriter, Read, Write};
 use words::big::be32;
 use words::part::part;
 
@@ -35,38 +35,47 @@ fn rest<'a>(s: &'a [u8]) -> &'a [u8] {
 }
 
 // Answers a question on a chain. Says whether its kind is known.
-fn ask(kind: u8, chain: &[u8], list: &[u8], asked: &[u8]) -> bool {
+fn ask<W: Write>(
+    out: &mut W,
+    kind: u8,
+    chain: &[u8],
+    list: &[u8],
+    asked: &[u8],
+) -> io::Result<bool> {
     match kind {
-        b'w' => whole(chain, list),
-        b's' => steps(chain, list, asked),
-        b'l' => lists(chain, list, asked),
-        b'f' => found(chain, list, asked),
-        b'p' => positions(chain, list, asked),
-        _ => return false,
+        b'w' => whole::whole(out, chain, list)?,
+        b's' => step::steps(out, chain, list, asked)?,
+        b'l' => lists(out, chain, list, asked)?,
+        b'f' => found(out, chain, list, asked)?,
+        b'p' => positions(out, chain, list, asked)?,
+        _ => return Ok(false),
     }
-    true
+    Ok(true)
 }
 
-fn answer(kind: u8, s: &[u8]) -> bool {
+fn answer<W: Write>(out: &mut W, kind: u8, s: &[u8]) -> io::Result<bool> {
     let more = rest(s);
-    ask(kind, rest(more), lead(s), lead(more))
+    ask(out, kind, rest(more), lead(s), lead(more))
 }
 
 // Reads one record and answers it. Says whether there may be more.
-fn record() -> bool {
+fn record<R: Read, W: Write>(from: &mut R, out: &mut W) -> io::Result<bool> {
     let mut bytes = room();
-    let r = read(&mut bytes);
+    let r = read(from, &mut bytes)?;
     if !r.there {
-        return false;
+        return Ok(false);
     }
-    let n = r.size;
-    answer(r.kind, &bytes[..n])
+    answer(out, r.kind, &bytes[..r.size])
 }
 
 // The turns are counted, for nothing says that the input ends.
-fn main() {
-    let mut turns = u64::MAX;
-    while turns > 0 && record() {
-        turns -= 1;
+fn main(rt: HostRuntime) -> io::Result<()> {
+    let mut from = BufReader::new(rt.alloc(), rt.reader())?;
+    let mut out = BufWriter::new(rt.alloc(), io::writer(&rt))?;
+    for _ in 0..u64::MAX {
+        if !record(&mut from, &mut out)? {
+            break;
+        }
     }
+    out.flush()
 }

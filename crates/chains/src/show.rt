@@ -5,114 +5,117 @@ use ask::positions::{commit_at, id_at, tree_at, which};
 use commit::{Asked, Commit, ParentEdge};
 use graph::locate::{Located, Spot, locate};
 use prints::print::{hex, number, print, refusal};
+use std::io;
+use std::io::Write;
 use types::graph::Position;
 use words::big::be32;
 
 // Prints the file of a position: its index, where it starts, its size, the position there and the file's commits.
-fn spot(s: Spot) {
+fn spot<W: Write>(out: &mut W, s: Spot) -> io::Result<()> {
     let at = s.pos;
     let f = s.inner;
-    print(b" file");
-    number(s.file as u64);
-    number(s.start as u64);
-    number(s.size as u64);
-    number(at.0 as u64);
-    number(f.commits as u64);
+    print(out, b" file")?;
+    number(out, s.file as u64)?;
+    number(out, s.start as u64)?;
+    number(out, s.size as u64)?;
+    number(out, at.0 as u64)?;
+    number(out, f.commits as u64)
 }
 
-fn located(a: Located) {
+fn located<W: Write>(out: &mut W, a: Located) -> io::Result<()> {
     match a {
-        Located::At(s) => spot(s),
+        Located::At(s) => spot(out, s),
         Located::Refused(r) => {
-            print(b" ");
-            refusal(r);
+            print(out, b" ")?;
+            refusal(out, r)
         }
     }
 }
 
-fn asking(a: Asking) {
+fn asking<W: Write>(out: &mut W, a: Asking) -> io::Result<()> {
     match a {
-        Asking::Fine => print(b" fine"),
+        Asking::Fine => print(out, b" fine"),
         Asking::Refused(r) => {
-            print(b" ");
-            refusal(r);
+            print(out, b" ")?;
+            refusal(out, r)
         }
     }
 }
 
 // Prints a part in digits, or that it is empty.
-fn bytes(s: &[u8]) {
+fn bytes<W: Write>(out: &mut W, s: &[u8]) -> io::Result<()> {
     if s.len() == 0 {
-        print(b" empty");
+        print(out, b" empty")
     } else {
-        print(b" ");
-        hex(s);
+        print(out, b" ")?;
+        hex(out, s)
     }
 }
 
-fn edge(e: ParentEdge) {
+fn edge<W: Write>(out: &mut W, e: ParentEdge) -> io::Result<()> {
     match e {
-        ParentEdge::None => print(b" none"),
+        ParentEdge::None => print(out, b" none"),
         ParentEdge::GraphPosition(p) => {
-            print(b" position");
-            number(p.0 as u64);
+            print(out, b" position")?;
+            number(out, p.0 as u64)
         }
         ParentEdge::ExtraEdgeIndex(k) => {
-            print(b" edge");
-            number(k as u64);
+            print(out, b" edge")?;
+            number(out, k as u64)
         }
     }
 }
 
-fn fields(c: Commit) {
+fn fields<W: Write>(out: &mut W, c: Commit) -> io::Result<()> {
     let first = c.first;
     let second = c.second;
-    number(c.generation as u64);
-    number(c.time);
-    edge(first);
-    edge(second);
+    number(out, c.generation as u64)?;
+    number(out, c.time)?;
+    edge(out, first)?;
+    edge(out, second)
 }
 
-fn asked(a: Asked) {
+fn asked<W: Write>(out: &mut W, a: Asked) -> io::Result<()> {
     match a {
-        Asked::Commit(c) => fields(c),
+        Asked::Commit(c) => fields(out, c),
         Asked::Refused(r) => {
-            print(b" ");
-            refusal(r);
+            print(out, b" ")?;
+            refusal(out, r)
         }
     }
 }
 
 // Prints the line of a lookup.
-pub fn found(chain: &[u8], list: &[u8], id: &[u8]) {
+pub fn found<W: Write>(out: &mut W, chain: &[u8], list: &[u8], id: &[u8]) -> io::Result<()> {
     match find(chain, list, id) {
         Found::At(p) => {
-            print(b"at");
-            number(p.0 as u64);
+            print(out, b"at")?;
+            number(out, p.0 as u64)?;
         }
-        Found::Absent => print(b"absent"),
-        Found::Refused(r) => refusal(r),
+        Found::Absent => print(out, b"absent")?,
+        Found::Refused(r) => refusal(out, r)?,
     }
-    print(b"\n");
+    print(out, b"\n")
 }
 
 // Prints what the questions by position answer: where it stands, which refusal, the id, the tree, the commit.
-pub fn position(chain: &[u8], list: &[u8], pos: Position) {
-    print(b"position");
-    number(pos.0 as u64);
-    located(locate(chain, list, pos));
-    asking(which(chain, list, pos));
-    bytes(id_at(chain, list, pos));
-    bytes(tree_at(chain, list, pos));
-    asked(commit_at(chain, list, pos));
+pub fn position<W: Write>(out: &mut W, chain: &[u8], list: &[u8], pos: Position) -> io::Result<()> {
+    print(out, b"position")?;
+    number(out, pos.0 as u64)?;
+    located(out, locate(chain, list, pos))?;
+    asking(out, which(chain, list, pos))?;
+    bytes(out, id_at(chain, list, pos))?;
+    bytes(out, tree_at(chain, list, pos))?;
+    asked(out, commit_at(chain, list, pos))
 }
 
 // Prints a line for each position that is asked, 4 bytes each.
-pub fn positions(chain: &[u8], list: &[u8], asked: &[u8]) {
+pub fn positions<W: Write>(out: &mut W, chain: &[u8], list: &[u8], asked: &[u8]) -> io::Result<()> {
     let mut at = 0;
     while 4 <= asked.len() - at {
-        position(chain, list, Position(be32(asked, at)));
-        print(b"\n");
+        position(out, chain, list, Position(be32(asked, at)))?;
+        print(out, b"\n")?;
         at += 4;
     }
+    Ok(())
 }

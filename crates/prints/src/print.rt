@@ -1,32 +1,27 @@
-// Words of a line: bytes as they are, numbers, bytes in digits, refusals.
-use libc::STDOUT_FILENO;
+// Words of a line: bytes as they are, numbers, bytes in digits, refusals. Each is written to `out`.
+use std::io;
+use std::io::Write;
 use types::refusal::Refusal;
 
-pub fn print(s: &[u8]) {
-    io::write_all(STDOUT_FILENO, s);
+pub fn print<W: Write>(out: &mut W, s: &[u8]) -> io::Result<()> {
+    out.write_all(s)
 }
 
-pub fn number(n: u64) {
-    print(b" ");
-    io::print_decimal(STDOUT_FILENO, n);
-}
-
-fn wide(x: u8) -> u64 {
-    x as u64
+pub fn number<W: Write>(out: &mut W, n: u64) -> io::Result<()> {
+    write!(out, " {n}")
 }
 
 // Prints bytes as two digits each.
-pub fn hex(s: &[u8]) {
-    let mut i = 0;
-    while i < s.len() {
-        io::print_hex(STDOUT_FILENO, wide(s[i]), 2);
-        i += 1;
+pub fn hex<W: Write>(out: &mut W, s: &[u8]) -> io::Result<()> {
+    for x in s {
+        write!(out, "{x:02x}")?;
     }
+    Ok(())
 }
 
-pub fn refusal(r: Refusal) {
-    print(b"refused");
-    number(r.number as u64);
-    number(r.file as u64);
-    number(r.place);
+pub fn refusal<W: Write>(out: &mut W, r: Refusal) -> io::Result<()> {
+    print(out, b"refused")?;
+    number(out, r.number as u64)?;
+    number(out, r.file as u64)?;
+    number(out, r.place)
 }

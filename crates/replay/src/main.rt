@@ -9,43 +9,47 @@ mod single;
 use cases::record::{read, room};
 use prints::print::print;
 use report::report;
-use single::single;
+use std::io;
+use std::io::{BufReader, BufWriter, Read, Write};
 
 // Prints what the program says for one input.
-fn answer(input: &[u8]) {
-    let mut out = io::buffer();
-    let size = report(input, &mut out);
-    print(&out[..size]);
+fn answer<W: Write>(out: &mut W, input: &[u8]) -> io::Result<()> {
+    let mut text = [0u8; 4096];
+    let size = report(input, &mut text);
+    print(out, &text[..size])
 }
 
 // Answers one record. Says whether its kind is known.
-fn ask(kind: u8, input: &[u8]) -> bool {
+fn ask<W: Write>(out: &mut W, kind: u8, input: &[u8]) -> io::Result<bool> {
     match kind {
-        b'v' => answer(input),
+        b'v' => answer(out, input)?,
         b't' => {
-            answer(input);
-            single(input);
+            answer(out, input)?;
+            single::single(out, input)?;
         }
-        _ => return false,
+        _ => return Ok(false),
     }
-    true
+    Ok(true)
 }
 
 // Reads one record and answers it. Says whether there may be more.
-fn record() -> bool {
+fn record<R: Read, W: Write>(from: &mut R, out: &mut W) -> io::Result<bool> {
     let mut bytes = room();
-    let r = read(&mut bytes);
+    let r = read(from, &mut bytes)?;
     if !r.there {
-        return false;
+        return Ok(false);
     }
-    let n = r.size;
-    ask(r.kind, &bytes[..n])
+    ask(out, r.kind, &bytes[..r.size])
 }
 
 // The turns are counted, for nothing says that the input ends.
-fn main() {
-    let mut turns = u64::MAX;
-    while turns > 0 && record() {
-        turns -= 1;
+fn main(rt: HostRuntime) -> io::Result<()> {
+    let mut from = BufReader::new(rt.alloc(), rt.reader())?;
+    let mut out = BufWriter::new(rt.alloc(), io::writer(&rt))?;
+    for _ in 0..u64::MAX {
+        if !record(&mut from, &mut out)? {
+            break;
+        }
     }
+    out.flush()
 }

@@ -18,9 +18,9 @@ overflow_mul-m c =
 pub loop-lo-preserved-in-Less : goal.loop-lo-preserved-in-Less
 unfolding key_of
 loop-lo-preserved-in-Less c = (
-      omega arith,
-      turn_less _ _ c.loop-lo.invariant.1 c.loop-lo-test.true refl c.compare.ensures.is c.in-Less.is,
-    )
+  omega arith,
+  turn_less _ _ c.loop-lo.invariant.1 c.loop-lo-test.true refl c.compare.ensures.is c.in-Less.is,
+)
 
 pub returns-in-Equal : goal.returns-in-Equal
 unfolding key_of
@@ -31,9 +31,9 @@ returns-in-Equal c =
 pub loop-lo-preserved : goal.loop-lo-preserved
 unfolding key_of
 loop-lo-preserved c = (
-      omega arith,
-      turn_greater _ _ c.loop-lo.invariant.1 c.loop-lo-test.true refl c.compare.ensures.is c.in-Greater.is,
-    )
+  omega arith,
+  turn_greater _ _ c.loop-lo.invariant.1 c.loop-lo-test.true refl c.compare.ensures.is c.in-Greater.is,
+)
 
 pub returns : goal.returns
 returns c = sym (c.loop-lo.invariant.1 ∙ halving_none _ _ c.loop-lo-test.false)

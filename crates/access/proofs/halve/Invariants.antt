@@ -9,7 +9,9 @@ use Rattle.access.specs.Lookup.{key_of, halving}
 use Rattle.access.proofs.halve.Given as goal
 
 abbrev pub invariant-loop-lo : goal.invariant-loop-lo
-invariant-loop-lo l = (l.hi ≤ l.to) × (halving (key_of (length l.x) l.ids) (number l.x) l.from l.to ≡ halving (key_of (length l.x) l.ids) (number l.x) l.lo l.hi)
+invariant-loop-lo l =
+    (l.hi ≤ l.to)
+    × (halving (key_of (length l.x) l.ids) (number l.x) l.from l.to ≡ halving (key_of (length l.x) l.ids) (number l.x) l.lo l.hi)
 
 abbrev pub decreases-loop-lo : goal.decreases-loop-lo
 decreases-loop-lo l = l.hi - l.lo

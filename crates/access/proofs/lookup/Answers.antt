@@ -27,14 +27,14 @@ pub returns-then-m-gt0 : goal.returns-then-m-gt0
 returns-then-m-gt0 c =
     let a = c.args in
     let p = told a.s.now a.f a.x.now (λ i. (c.type_inv.s i).fits) (λ i. (c.type_inv.x i).fits)
-        (c.refused.ensures ∙ look_misfit _ _ _ c.fit-m.ensures c.if-m-gt0.true) in
+    (c.refused.ensures ∙ look_misfit _ _ _ c.fit-m.ensures c.if-m-gt0.true) in
     record { is = p.0; right = p.1 }
 
 pub returns-then-x-f : goal.returns-then-x-f
 returns-then-x-f c =
     let a = c.args in
     let p = told a.s.now a.f a.x.now (λ i. (c.type_inv.s i).fits) (λ i. (c.type_inv.x i).fits)
-        (c.refused-then-x-f.ensures ∙ look_width _ _ _ c.fit-m.ensures c.if-m-gt0.false c.if-x-f.true) in
+    (c.refused-then-x-f.ensures ∙ look_width _ _ _ c.fit-m.ensures c.if-m-gt0.false c.if-x-f.true) in
     record { is = p.0; right = p.1 }
 
 pub oidf-fan-requires : goal.oidf-fan-requires
@@ -51,11 +51,11 @@ bounds-x-0 c =
 
 pub returns-then-f-to : goal.returns-then-f-to
 returns-then-f-to c =
-    let entry : ( let a = c.args in c.be32-to.result ≡ upper (fan_part a.s.now a.f) (get_or a.x.now 0 0)) =
+    let entry : (let a = c.args in c.be32-to.result ≡ upper (fan_part a.s.now a.f) (get_or a.x.now 0 0)) =
     c.be32-to.ensures ∙ ap₂ upper c.oidf-fan.ensures.bytes c.wide-b.ensures.0 in
     let a = c.args in
     let p = told a.s.now a.f a.x.now (λ i. (c.type_inv.s i).fits) (λ i. (c.type_inv.x i).fits)
-        (c.refused-then-f-to.ensures ∙ look_out _ _ _ c.fit-m.ensures c.if-m-gt0.false c.if-x-f.false entry c.if-f-to.true) in
+    (c.refused-then-f-to.ensures ∙ look_out _ _ _ c.fit-m.ensures c.if-m-gt0.false c.if-x-f.false entry c.if-f-to.true) in
     record { is = p.0; right = p.1 }
 
 pub oidl-requires : goal.oidl-requires
@@ -72,11 +72,11 @@ halve-requires c =
 
 pub returns : goal.returns
 returns c =
-    let entry : ( let a = c.args in c.be32-to.result ≡ upper (fan_part a.s.now a.f) (get_or a.x.now 0 0)) =
+    let entry : (let a = c.args in c.be32-to.result ≡ upper (fan_part a.s.now a.f) (get_or a.x.now 0 0)) =
     c.be32-to.ensures ∙ ap₂ upper c.oidf-fan.ensures.bytes c.wide-b.ensures.0 in
     let a = c.args in
     let p = told a.s.now a.f a.x.now (λ i. (c.type_inv.s i).fits) (λ i. (c.type_inv.x i).fits)
-        (rw c.oidl.ensures.bytes at c.halve.ensures
-        ∙ look_search _ _ a.x.now c.fit-m.ensures c.if-m-gt0.false c.if-x-f.false entry c.if-f-to.false
-        (c.low.ensures ∙ ap₂ lower c.oidf-fan.ensures.bytes c.wide-b.ensures.0)) in
+    (rw c.oidl.ensures.bytes at c.halve.ensures
+    ∙ look_search _ _ a.x.now c.fit-m.ensures c.if-m-gt0.false c.if-x-f.false entry c.if-f-to.false
+    (c.low.ensures ∙ ap₂ lower c.oidf-fan.ensures.bytes c.wide-b.ensures.0)) in
     record { is = p.0; right = p.1 }

@@ -64,7 +64,7 @@ returns-in-Refused c =
     let here : c.loop-i.i < records_of c.args.z c.args.list.now = omega (arith, c.loop-i-test.true, c.requires.n_value.0) in
     let p = c.requires.tabled in
     let cut : c.part-s.result.now ≡ part_at c.args.z c.args.chain.now c.args.list.now c.loop-i.i =
-        part_is _ p.listed _ here (p.start _ (omega (arith, here))) (omega (arith, table_length _ _ _ p _ here)) _ c.part-s.ensures in
+    part_is _ p.listed _ here (p.start _ (omega (arith, here))) (omega (arith, table_length _ _ _ p _ here)) _ c.part-s.ensures in
     absurd (no_refusal _ _ _ c.requires.tabled c.loop-i.i here (open_is _ _ _ _ cut c.«open».ensures.is c.in-Refused.is))
 
 pub head-h-requires : goal.head-h-requires
@@ -72,7 +72,7 @@ head-h-requires c =
     let here : c.loop-i.i < records_of c.args.z c.args.list.now = omega (arith, c.loop-i-test.true, c.requires.n_value.0) in
     let p = c.requires.tabled in
     let cut : c.part-s.result.now ≡ part_at c.args.z c.args.chain.now c.args.list.now c.loop-i.i =
-        part_is _ p.listed _ here (p.start _ (omega (arith, here))) (omega (arith, table_length _ _ _ p _ here)) _ c.part-s.ensures in
+    part_is _ p.listed _ here (p.start _ (omega (arith, here))) (omega (arith, table_length _ _ _ p _ here)) _ c.part-s.ensures in
     record { tabled = c.requires.tabled; i_bound = (here, open_is _ _ _ _ cut c.«open».ensures.is c.in-Open.is, cut) }
 
 pub returns-then-h-gt0 : goal.returns-then-h-gt0
@@ -85,13 +85,17 @@ scan-r-requires c =
     let here : c.loop-i.i < records_of c.args.z c.args.list.now = omega (arith, c.loop-i-test.true, c.requires.n_value.0) in
     let p = c.requires.tabled in
     let cut : c.part-s.result.now ≡ part_at c.args.z c.args.chain.now c.args.list.now c.loop-i.i =
-        part_is _ p.listed _ here (p.start _ (omega (arith, here))) (omega (arith, table_length _ _ _ p _ here)) _ c.part-s.ensures in
-    record { starts = record { home = record { z = _; l = _; tabled = p; below = here }; before = c.loop-i.invariant.before }; s_value = (cut ∙ sym (part_by_lem _ _ _ p _ here), sym c.«open».ensures.is ∙ c.in-Open.is) }
+    part_is _ p.listed _ here (p.start _ (omega (arith, here))) (omega (arith, table_length _ _ _ p _ here)) _ c.part-s.ensures in
+    record {
+      starts = record { home = record { z = _; l = _; tabled = p; below = here }; before = c.loop-i.invariant.before };
+      s_value = (cut ∙ sym (part_by_lem _ _ _ p _ here), sym c.«open».ensures.is ∙ c.in-Open.is);
+    }
 
 pub returns-then-r-gt0 : goal.returns-then-r-gt0
 returns-then-r-gt0 c =
     let here : c.loop-i.i < records_of c.args.z c.args.list.now = omega (arith, c.loop-i-test.true, c.requires.n_value.0) in
-    let scanned : ScannedAs c.args.z c.args.chain.now c.args.list.now c.loop-i.i c.scan-r.result = c.scan-r.ensures _ _ c.requires.tabled here c.loop-i.invariant.before in
+    let scanned : ScannedAs c.args.z c.args.chain.now c.args.list.now c.loop-i.i c.scan-r.result =
+    c.scan-r.ensures _ _ c.requires.tabled here c.loop-i.invariant.before in
     rw (c.refused-then-r-gt0.ensures, c.of_file-then-r-gt0.ensures, c.at-then-r-gt0.ensures)
     (filing_commit _ _ _ _ _ c.loop-i.invariant c.loop-i-test.true c.head-h.ensures c.if-h-gt0.false
     scanned c.if-r-gt0.true)
@@ -107,44 +111,45 @@ loop-i-smaller c = omega (arith, c.loop-i-test.true)
 pub loop-i-preserved : goal.loop-i-preserved
 loop-i-preserved c =
     let here : c.loop-i.i < records_of c.args.z c.args.list.now = omega (arith, c.loop-i-test.true, c.requires.n_value.0) in
-    let scanned : ScannedAs c.args.z c.args.chain.now c.args.list.now c.loop-i.i c.scan-r.result = c.scan-r.ensures _ _ c.requires.tabled here c.loop-i.invariant.before in
+    let scanned : ScannedAs c.args.z c.args.chain.now c.args.list.now c.loop-i.i c.scan-r.result =
+    c.scan-r.ensures _ _ c.requires.tabled here c.loop-i.invariant.before in
     filing_next _ _ _ _ _ c.loop-i.invariant c.loop-i-test.true c.head-h.ensures c.if-h-gt0.false
     scanned c.if-r-gt0.false
 
 pub overflow_mul-n : goal.overflow_mul-n
 overflow_mul-n c =
     let last : (c.args.n ≤ records_of c.args.z c.args.list.now) × (c.args.n * 4 + 1 < length c.args.table.now) =
-        (omega (arith, c.requires.n_value.0), omega (arith, c.requires.n_value.0, c.requires.tabled.listed.few, c.requires.tabled.long)) in
+    (omega (arith, c.requires.n_value.0), omega (arith, c.requires.n_value.0, c.requires.tabled.listed.few, c.requires.tabled.long)) in
     omega (arith, last)
 
 pub overflow_add-n : goal.overflow_add-n
 overflow_add-n c =
     let last : (c.args.n ≤ records_of c.args.z c.args.list.now) × (c.args.n * 4 + 1 < length c.args.table.now) =
-        (omega (arith, c.requires.n_value.0), omega (arith, c.requires.n_value.0, c.requires.tabled.listed.few, c.requires.tabled.long)) in
+    (omega (arith, c.requires.n_value.0), omega (arith, c.requires.n_value.0, c.requires.tabled.listed.few, c.requires.tabled.long)) in
     omega (arith, last)
 
 pub offset_bounds-table-n : goal.offset_bounds-table-n
 offset_bounds-table-n c =
     let last : (c.args.n ≤ records_of c.args.z c.args.list.now) × (c.args.n * 4 + 1 < length c.args.table.now) =
-        (omega (arith, c.requires.n_value.0), omega (arith, c.requires.n_value.0, c.requires.tabled.listed.few, c.requires.tabled.long)) in
+    (omega (arith, c.requires.n_value.0), omega (arith, c.requires.n_value.0, c.requires.tabled.listed.few, c.requires.tabled.long)) in
     omega (arith, last)
 
 pub bounds-table-n : goal.bounds-table-n
 bounds-table-n c =
     let last : (c.args.n ≤ records_of c.args.z c.args.list.now) × (c.args.n * 4 + 1 < length c.args.table.now) =
-        (omega (arith, c.requires.n_value.0), omega (arith, c.requires.n_value.0, c.requires.tabled.listed.few, c.requires.tabled.long)) in
+    (omega (arith, c.requires.n_value.0), omega (arith, c.requires.n_value.0, c.requires.tabled.listed.few, c.requires.tabled.long)) in
     omega (arith, last)
 
 pub accepted-requires : goal.accepted-requires
 accepted-requires c =
     let last : (c.args.n ≤ records_of c.args.z c.args.list.now) × (c.args.n * 4 + 1 < length c.args.table.now) =
-        (omega (arith, c.requires.n_value.0), omega (arith, c.requires.n_value.0, c.requires.tabled.listed.few, c.requires.tabled.long)) in
+    (omega (arith, c.requires.n_value.0), omega (arith, c.requires.n_value.0, c.requires.tabled.listed.few, c.requires.tabled.long)) in
     let p = c.requires.tabled in
     omega (arith, p.first _ last.0, few_positions _ _ _ p.listed _ last.0)
 
 pub returns : goal.returns
 returns c =
     let last : (c.args.n ≤ records_of c.args.z c.args.list.now) × (c.args.n * 4 + 1 < length c.args.table.now) =
-        (omega (arith, c.requires.n_value.0), omega (arith, c.requires.n_value.0, c.requires.tabled.listed.few, c.requires.tabled.long)) in
+    (omega (arith, c.requires.n_value.0), omega (arith, c.requires.n_value.0, c.requires.tabled.listed.few, c.requires.tabled.long)) in
     rw c.accepted.ensures
     (filing_ends _ _ _ _ _ c.loop-i.invariant c.requires.n_value.0 c.loop-i-test.false (c.requires.tabled.first _ last.0))

@@ -18,13 +18,16 @@ overflow_add-w c =
 
 pub returns-then-k-gt0 : goal.returns-then-k-gt0
 returns-then-k-gt0 c =
-    let asked : (let a = c.args in Answered a.s.now a.f a.f.commits a.pos.0 × (c.entry_in-k.result ≡ entry_in a.f.width (fan_part a.s.now a.f) (ids_part a.s.now a.f) (rows_part a.s.now a.f) a.pos.0)) =
-    let k = answered _ _ _ _ c.ask-m.ensures c.if-m-gt0.false in (k, c.entry_in-k.ensures ∙ entry_cut _ _ _ _ k c.part-fan.ensures c.part-ids.ensures c.part-rows.ensures) in
-    let k = asked in
-    answers (ap Refused c.at-then-k-gt0.ensures ∙ entry_bad _ _ _ k.0 k.1 c.if-k-gt0.true)
+    let a = c.args in
+    let k : Answered a.s.now a.f a.f.commits a.pos.0 = answered _ _ _ _ c.ask-m.ensures c.if-m-gt0.false in
+    let entry = c.entry_in-k.ensures
+    ∙ entry_cut _ _ _ _ k c.part-fan.ensures c.part-ids.ensures c.part-rows.ensures in
+    answers (ap Refused c.at-then-k-gt0.ensures ∙ entry_bad _ _ _ k entry c.if-k-gt0.true)
 
 pub returns : goal.returns
 returns c =
-    let asked : (let a = c.args in Answered a.s.now a.f a.f.commits a.pos.0 × (c.entry_in-k.result ≡ entry_in a.f.width (fan_part a.s.now a.f) (ids_part a.s.now a.f) (rows_part a.s.now a.f) a.pos.0)) =
-    let k = answered _ _ _ _ c.ask-m.ensures c.if-m-gt0.false in (k, c.entry_in-k.ensures ∙ entry_cut _ _ _ _ k c.part-fan.ensures c.part-ids.ensures c.part-rows.ensures) in
-    answers (let k = asked in entry_fine _ _ _ k.0 k.1 c.if-k-gt0.false)
+    let a = c.args in
+    let k : Answered a.s.now a.f a.f.commits a.pos.0 = answered _ _ _ _ c.ask-m.ensures c.if-m-gt0.false in
+    let entry = c.entry_in-k.ensures
+    ∙ entry_cut _ _ _ _ k c.part-fan.ensures c.part-ids.ensures c.part-rows.ensures in
+    answers (entry_fine _ _ _ k entry c.if-k-gt0.false)

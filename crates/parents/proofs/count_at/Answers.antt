@@ -20,7 +20,7 @@ unfolding total_by
 returns-in-Count c =
     let k = commit_given _ _ _ c.commit_at.ensures.is c.in-Commit.is in
     let counted : total_by c.args.pos.0 (Count c.in-Count.n) ≡ total_of c.args.s.now c.args.f c.args.pos.0 =
-        total_plain _ _ _ k.0.rule (c.count_in.ensures.is ∙ rw (k.1, c.present-there.ensures, c.edge.ensures.bytes)) c.in-Count.is in
+    total_plain _ _ _ k.0.rule (c.count_in.ensures.is ∙ rw (k.1, c.present-there.ensures, c.edge.ensures.bytes)) c.in-Count.is in
     answers counted
 
 pub returns-in-Refused-count_in : goal.returns-in-Refused-count_in
@@ -28,5 +28,5 @@ unfolding total_by
 returns-in-Refused-count_in c =
     let k = commit_given _ _ _ c.commit_at.ensures.is c.in-Commit.is in
     let counted : total_by c.args.pos.0 (Stopped c.in-Refused-count_in.m) ≡ total_of c.args.s.now c.args.f c.args.pos.0 =
-        total_plain _ _ _ k.0.rule (c.count_in.ensures.is ∙ rw (k.1, c.present-there.ensures, c.edge.ensures.bytes)) c.in-Refused-count_in.is in
+    total_plain _ _ _ k.0.rule (c.count_in.ensures.is ∙ rw (k.1, c.present-there.ensures, c.edge.ensures.bytes)) c.in-Refused-count_in.is in
     answers (ap Refused c.at.ensures ∙ counted)

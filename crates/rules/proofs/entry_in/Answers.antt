@@ -21,7 +21,7 @@ pub overflow_mul-i : goal.overflow_mul-i
 overflow_mul-i c =
     let wide : known c.args.w ≡ true =
     sym c.known.ensures ∙ c.if-not-known.false in
-    let small : ( (c.args.c * c.args.w < 2 ^ 63) × ((20 ≤ c.args.w) × (c.args.w ≤ 32))) =
+    let small : ((c.args.c * c.args.w < 2 ^ 63) × ((20 ≤ c.args.w) × (c.args.w ≤ 32))) =
     (small_ids _ wide c.args.c (omega arith), width_bounds _ wide) in
     omega (arith, small)
 
@@ -29,7 +29,7 @@ pub overflow_add-i : goal.overflow_add-i
 overflow_add-i c =
     let wide : known c.args.w ≡ true =
     sym c.known.ensures ∙ c.if-not-known.false in
-    let small : ( (c.args.c * c.args.w < 2 ^ 63) × ((20 ≤ c.args.w) × (c.args.w ≤ 32))) =
+    let small : ((c.args.c * c.args.w < 2 ^ 63) × ((20 ≤ c.args.w) × (c.args.w ≤ 32))) =
     (small_ids _ wide c.args.c (omega arith), width_bounds _ wide) in
     omega (arith, small)
 
@@ -61,7 +61,7 @@ pub bounds-ids-i : goal.bounds-ids-i
 bounds-ids-i c =
     let wide : known c.args.w ≡ true =
     sym c.known.ensures ∙ c.if-not-known.false in
-    let small : ( (c.args.c * c.args.w < 2 ^ 63) × ((20 ≤ c.args.w) × (c.args.w ≤ 32))) =
+    let small : ((c.args.c * c.args.w < 2 ^ 63) × ((20 ≤ c.args.w) × (c.args.w ≤ 32))) =
     (small_ids _ wide c.args.c (omega arith), width_bounds _ wide) in
     omega (arith, small)
 

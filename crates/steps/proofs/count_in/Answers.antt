@@ -17,9 +17,9 @@ loop-n-smaller c = next_less _ _ _ _ _ c.step_in-x.ensures.is c.in-Parent.is
 
 pub loop-n-preserved : goal.loop-n-preserved
 loop-n-preserved c = (
-      omega (arith, next_less _ _ _ _ _ c.step_in-x.ensures.is c.in-Parent.is, c.loop-n.invariant.0),
-      sym (count_next _ _ _ _ _ c.step_in-x.ensures.is _ c.in-Parent.is) ∙ c.loop-n.invariant.1,
-    )
+  omega (arith, next_less _ _ _ _ _ c.step_in-x.ensures.is c.in-Parent.is, c.loop-n.invariant.0),
+  sym (count_next _ _ _ _ _ c.step_in-x.ensures.is _ c.in-Parent.is) ∙ c.loop-n.invariant.1,
+)
 
 pub returns-in-Refused : goal.returns-in-Refused
 unfolding count_of

@@ -25,7 +25,7 @@ pub returns-then-m-gt0 : goal.returns-then-m-gt0
 returns-then-m-gt0 c =
     let a = c.args in
     let p = told a.chain.now a.list.now a.x.now (λ i. (c.type_inv.chain i).fits) (λ i. (c.type_inv.x i).fits)
-        (find_refused 32 _ _ _ (opened_list 32 _ _ c.check-m.ensures c.if-m-gt0.true) c.if-m-gt0.true) in
+    (find_refused 32 _ _ _ (opened_list 32 _ _ c.check-m.ensures c.if-m-gt0.true) c.if-m-gt0.true) in
     record { is = p.0; right = p.1 }
 
 pub overflow_cast-n : goal.overflow_cast-n
@@ -44,7 +44,7 @@ returns-then-q-gt0 c =
     opened_pass 32 _ _ c.check-m.ensures c.if-m-gt0.false c.look-v.ensures.refusal in
     let a = c.args in
     let p = told a.chain.now a.list.now a.x.now (λ i. (c.type_inv.chain i).fits) (λ i. (c.type_inv.x i).fits)
-        (find_refused 32 _ _ _ files c.if-q-gt0.true) in
+    (find_refused 32 _ _ _ files c.if-q-gt0.true) in
     record { is = p.0; right = p.1 }
 
 pub returns-then-x-ne20 : goal.returns-then-x-ne20
@@ -53,7 +53,7 @@ returns-then-x-ne20 c =
     opened_pass 32 _ _ c.check-m.ensures c.if-m-gt0.false c.look-v.ensures.refusal in
     let a = c.args in
     let p = told a.chain.now a.list.now a.x.now (λ i. (c.type_inv.chain i).fits) (λ i. (c.type_inv.x i).fits)
-        (find_width 32 _ _ _ files c.if-q-gt0.false c.if-x-ne20.true c.at.ensures) in
+    (find_width 32 _ _ _ files c.if-q-gt0.false c.if-x-ne20.true c.at.ensures) in
     record { is = p.0; right = p.1 }
 
 pub returns-then-hit : goal.returns-then-hit
@@ -62,7 +62,7 @@ returns-then-hit c =
     opened_pass 32 _ _ c.check-m.ensures c.if-m-gt0.false c.look-v.ensures.refusal in
     let a = c.args in
     let p = told a.chain.now a.list.now a.x.now (λ i. (c.type_inv.chain i).fits) (λ i. (c.type_inv.x i).fits)
-        (find_at_lem 32 _ _ _ files c.if-q-gt0.false c.if-x-ne20.false _ (c.look-v.ensures.answer (omega arith)) c.if-hit.true) in
+    (find_at_lem 32 _ _ _ files c.if-q-gt0.false c.if-x-ne20.false _ (c.look-v.ensures.answer (omega arith)) c.if-hit.true) in
     record { is = p.0; right = p.1 }
 
 pub returns : goal.returns
@@ -71,5 +71,5 @@ returns c =
     opened_pass 32 _ _ c.check-m.ensures c.if-m-gt0.false c.look-v.ensures.refusal in
     let a = c.args in
     let p = told a.chain.now a.list.now a.x.now (λ i. (c.type_inv.chain i).fits) (λ i. (c.type_inv.x i).fits)
-        (find_absent 32 _ _ _ files c.if-q-gt0.false c.if-x-ne20.false _ (c.look-v.ensures.answer (omega arith)) c.if-hit.false) in
+    (find_absent 32 _ _ _ files c.if-q-gt0.false c.if-x-ne20.false _ (c.look-v.ensures.answer (omega arith)) c.if-hit.false) in
     record { is = p.0; right = p.1 }

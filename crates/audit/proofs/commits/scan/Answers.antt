@@ -45,25 +45,25 @@ pub returns-then-t-gt0 : goal.returns-then-t-gt0
 returns-then-t-gt0 c =
     let a = c.args in
     let cut = cut_is _ (opened true _ c.requires.s_value.1) _ _ _ _ c.part-fan.ensures c.part-ids.ensures c.part-rows.ensures
-        c.start.ensures c.size.ensures c.part-edge.ensures (ap not c.missing-there.ensures) in
+    c.start.ensures c.size.ensures c.part-edge.ensures (ap not c.missing-there.ensures) in
     let q = c.requires.s_value.0 in
     let o = c.requires.s_value.1 in
     let told = λ (z : ℕ) (l : List ℕ) (p : Tabled z a.chain.now l a.table.now) (h : a.i < records_of z l).
-        commit_told z _ l _ (file p h q o) _ c.loop-k-test.true _ (cut ∙ ap (λ (b : List ℕ). parts_of b a.f) (bytes p h q o))
-        c.row_in-a.ensures.is (c.attempt-t.ensures z l p h) in
+    commit_told z _ l _ (file p h q o) _ c.loop-k-test.true _ (cut ∙ ap (λ (b : List ℕ). parts_of b a.f) (bytes p h q o))
+    c.row_in-a.ensures.is (c.attempt-t.ensures z l p h) in
     λ z l p h b. try_stops z _ l _ h (c.loop-k.invariant z l p h b) (omega (arith, c.loop-k-test.true, many p h q o))
-        (told z l p h) _ c.if-t-gt0.true refl refl
+    (told z l p h) _ c.if-t-gt0.true refl refl
 
 pub overflow_add-counts : goal.overflow_add-counts
 overflow_add-counts c =
     let a = c.args in
     let cut = cut_is _ (opened true _ c.requires.s_value.1) _ _ _ _ c.part-fan.ensures c.part-ids.ensures c.part-rows.ensures
-        c.start.ensures c.size.ensures c.part-edge.ensures (ap not c.missing-there.ensures) in
+    c.start.ensures c.size.ensures c.part-edge.ensures (ap not c.missing-there.ensures) in
     let q = c.requires.s_value.0 in
     let o = c.requires.s_value.1 in
     let told = λ (z : ℕ) (l : List ℕ) (p : Tabled z a.chain.now l a.table.now) (h : a.i < records_of z l).
-        commit_told z _ l _ (file p h q o) _ c.loop-k-test.true _ (cut ∙ ap (λ (b : List ℕ). parts_of b a.f) (bytes p h q o))
-        c.row_in-a.ensures.is (c.attempt-t.ensures z l p h) in
+    commit_told z _ l _ (file p h q o) _ c.loop-k-test.true _ (cut ∙ ap (λ (b : List ℕ). parts_of b a.f) (bytes p h q o))
+    c.row_in-a.ensures.is (c.attempt-t.ensures z l p h) in
     let h = c.requires.starts.home in
     let below : c.loop-k.k < count_at h.z a.chain.now h.l a.i = omega (arith, c.loop-k-test.true, many h.tabled h.below q o) in
     omega (
@@ -78,7 +78,7 @@ overflow_add-k c =
     let a = c.args in
     let h = c.requires.starts.home in
     let below : c.loop-k.k < count_at h.z a.chain.now h.l a.i =
-        omega (arith, c.loop-k-test.true, many h.tabled h.below c.requires.s_value.0 c.requires.s_value.1) in
+    omega (arith, c.loop-k-test.true, many h.tabled h.below c.requires.s_value.0 c.requires.s_value.1) in
     omega (arith, try_few h.z _ h.l _ h.tabled h.below _ below)
 
 pub loop-k-smaller : goal.loop-k-smaller
@@ -88,17 +88,17 @@ pub loop-k-preserved : goal.loop-k-preserved
 loop-k-preserved c =
     let a = c.args in
     let cut = cut_is _ (opened true _ c.requires.s_value.1) _ _ _ _ c.part-fan.ensures c.part-ids.ensures c.part-rows.ensures
-        c.start.ensures c.size.ensures c.part-edge.ensures (ap not c.missing-there.ensures) in
+    c.start.ensures c.size.ensures c.part-edge.ensures (ap not c.missing-there.ensures) in
     let q = c.requires.s_value.0 in
     let o = c.requires.s_value.1 in
     let told = λ (z : ℕ) (l : List ℕ) (p : Tabled z a.chain.now l a.table.now) (h : a.i < records_of z l).
-        commit_told z _ l _ (file p h q o) _ c.loop-k-test.true _ (cut ∙ ap (λ (b : List ℕ). parts_of b a.f) (bytes p h q o))
-        c.row_in-a.ensures.is (c.attempt-t.ensures z l p h) in
+    commit_told z _ l _ (file p h q o) _ c.loop-k-test.true _ (cut ∙ ap (λ (b : List ℕ). parts_of b a.f) (bytes p h q o))
+    c.row_in-a.ensures.is (c.attempt-t.ensures z l p h) in
     λ z l p h b. try_next z _ l _ h (c.loop-k.invariant z l p h b) (omega (arith, c.loop-k-test.true, many p h q o)) (told z l p h)
-        c.if-t-gt0.false c.key-j.ensures.0 c.key-j.ensures.1
-        (elim c.if-highest-t.branch [ then-highest-t w ↦ omega arith | else-highest-t w ↦ omega arith ])
+    c.if-t-gt0.false c.key-j.ensures.0 c.key-j.ensures.1
+    (elim c.if-highest-t.branch [ then-highest-t w ↦ omega arith | else-highest-t w ↦ omega arith ])
 
 pub returns : goal.returns
 returns c =
     λ z l p h b. try_ends z _ l _ h (c.loop-k.invariant z l p h b)
-        (omega (arith, c.loop-k-test.false, many p h c.requires.s_value.0 c.requires.s_value.1)) _ refl refl refl refl
+    (omega (arith, c.loop-k-test.false, many p h c.requires.s_value.0 c.requires.s_value.1)) _ refl refl refl refl

@@ -24,7 +24,7 @@ returns-then-not-same c =
     let here : c.loop-j.j * c.args.w + c.args.w ≤ c.args.i * c.args.w = run_within _ _ _ c.loop-j-test.true in
     let a = c.args in
     let alien : not c.same.result ≡ alien_by a.chain.now a.table.now a.w a.ids.now c.loop-j.j =
-        alien_by_lem _ _ _ _ _ _ (omega (arith, here)) c.part.ensures c.same.ensures in
+    alien_by_lem _ _ _ _ _ _ (omega (arith, here)) c.part.ensures c.same.ensures in
     first_stop _ _ _ c.loop-j.invariant.1 c.loop-j-test.true (sym alien ∙ ap not c.if-not-same.true)
 
 pub loop-j-preserved : goal.loop-j-preserved
@@ -32,7 +32,7 @@ loop-j-preserved c =
     let here : c.loop-j.j * c.args.w + c.args.w ≤ c.args.i * c.args.w = run_within _ _ _ c.loop-j-test.true in
     let a = c.args in
     let alien : not c.same.result ≡ alien_by a.chain.now a.table.now a.w a.ids.now c.loop-j.j =
-        alien_by_lem _ _ _ _ _ _ (omega (arith, here)) c.part.ensures c.same.ensures in
+    alien_by_lem _ _ _ _ _ _ (omega (arith, here)) c.part.ensures c.same.ensures in
     (omega arith, first_step _ _ _ c.loop-j.invariant.1 c.loop-j-test.true (sym alien ∙ ap not c.if-not-same.false))
 
 pub returns : goal.returns

@@ -1,12 +1,27 @@
 -- `audit::meets::gen_at` meets its contract: what it cuts out is the CDAT chunk of the file that has position g.
 use Prim.Native.Nat.{ℕ, ◌+◌, ◌-◌, ◌*◌, ◌/◌, ◌≤◌, ◌<◌}
+use mathlib.Core.List.{List}
 use mathlib.Core.Path.{ap, ◌∙◌}
+use denote.Ref.{Bor}
 use native.Mathlib.Omega.{arith}
 use lib.ListN.{length, get_or}
 use Rattle.list.specs.List.{records_of}
-use Rattle.audit.specs.Scans.{first_in, wide_in}
+use Rattle.audit.specs.Scans.{Home, first_in, wide_in}
 use Rattle.audit.proofs.Tabling.{from_none, row_room, next_first, gen_room, gen_read}
 use Rattle.audit.proofs.meets.gen_at.Goals as goal
+
+-- the row of file i that was found, the first positions around g, and the place that is read
+here : (s : Bor (List ℕ)) {t : List ℕ} {home i g : ℕ} → Home s.now t home
+    → (i ≤ home) × (first_in t i ≤ g) × (g < first_in t (i + 1))
+    → (i * 4 + 5 < length t) × (first_in t i ≤ g) × (first_in t i ≤ get_or t (i * 4 + 5) 0)
+    × ((g - first_in t i) * (wide_in t i + 16) + (wide_in t i + 16) ≤ 1073741824)
+here s {t} {home} {i} {g} o e =
+    let h : i < records_of o.z o.l = omega (arith, e.0, o.below) in (
+      row_room _ _ _ o.tabled _ h,
+      e.1,
+      omega (arith, next_first t i, e.1, e.2),
+      gen_room s o.tabled _ _ h e.1 e.2,
+    )
 
 pub file_of-i-requires : goal.file_of-i-requires
 file_of-i-requires c =
@@ -15,123 +30,83 @@ file_of-i-requires c =
 
 pub overflow_mul-i : goal.overflow_mul-i
 overflow_mul-i c =
-    let here : (let a = c.args in let t = a.table.now in let i = c.file_of-i.result in (i * 4 + 5 < length t) × (first_in t i ≤ a.g) × (first_in t i ≤ get_or t (i * 4 + 5) 0) × ((a.g - first_in t i) * (wide_in t i + 16) + (wide_in t i + 16) ≤ 1073741824)) =
-    let home = c.requires.home in let e = c.file_of-i.ensures in let h : c.file_of-i.result < records_of home.z home.l = omega (arith, e.0, home.below) in ( row_room _ _ _ home.tabled _ h, e.1, omega (arith, next_first c.args.table.now c.file_of-i.result, e.1, e.2), gen_room c.args.chain home.tabled _ _ h e.1 e.2, ) in
-    omega (arith, here)
+    omega (arith, here c.args.chain c.requires.home c.file_of-i.ensures)
 
 pub overflow_add-from : goal.overflow_add-from
 overflow_add-from c =
-    let here : (let a = c.args in let t = a.table.now in let i = c.file_of-i.result in (i * 4 + 5 < length t) × (first_in t i ≤ a.g) × (first_in t i ≤ get_or t (i * 4 + 5) 0) × ((a.g - first_in t i) * (wide_in t i + 16) + (wide_in t i + 16) ≤ 1073741824)) =
-    let home = c.requires.home in let e = c.file_of-i.ensures in let h : c.file_of-i.result < records_of home.z home.l = omega (arith, e.0, home.below) in ( row_room _ _ _ home.tabled _ h, e.1, omega (arith, next_first c.args.table.now c.file_of-i.result, e.1, e.2), gen_room c.args.chain home.tabled _ _ h e.1 e.2, ) in
-    omega (arith, here)
+    omega (arith, here c.args.chain c.requires.home c.file_of-i.ensures)
 
 pub offset_bounds-table-i : goal.offset_bounds-table-i
 offset_bounds-table-i c =
-    let here : (let a = c.args in let t = a.table.now in let i = c.file_of-i.result in (i * 4 + 5 < length t) × (first_in t i ≤ a.g) × (first_in t i ≤ get_or t (i * 4 + 5) 0) × ((a.g - first_in t i) * (wide_in t i + 16) + (wide_in t i + 16) ≤ 1073741824)) =
-    let home = c.requires.home in let e = c.file_of-i.ensures in let h : c.file_of-i.result < records_of home.z home.l = omega (arith, e.0, home.below) in ( row_room _ _ _ home.tabled _ h, e.1, omega (arith, next_first c.args.table.now c.file_of-i.result, e.1, e.2), gen_room c.args.chain home.tabled _ _ h e.1 e.2, ) in
-    omega (arith, here)
+    omega (arith, here c.args.chain c.requires.home c.file_of-i.ensures)
 
 pub bounds-table-i : goal.bounds-table-i
 bounds-table-i c =
-    let here : (let a = c.args in let t = a.table.now in let i = c.file_of-i.result in (i * 4 + 5 < length t) × (first_in t i ≤ a.g) × (first_in t i ≤ get_or t (i * 4 + 5) 0) × ((a.g - first_in t i) * (wide_in t i + 16) + (wide_in t i + 16) ≤ 1073741824)) =
-    let home = c.requires.home in let e = c.file_of-i.ensures in let h : c.file_of-i.result < records_of home.z home.l = omega (arith, e.0, home.below) in ( row_room _ _ _ home.tabled _ h, e.1, omega (arith, next_first c.args.table.now c.file_of-i.result, e.1, e.2), gen_room c.args.chain home.tabled _ _ h e.1 e.2, ) in
-    omega (arith, here)
+    omega (arith, here c.args.chain c.requires.home c.file_of-i.ensures)
 
 pub overflow_add-w : goal.overflow_add-w
 overflow_add-w c =
-    let here : (let a = c.args in let t = a.table.now in let i = c.file_of-i.result in (i * 4 + 5 < length t) × (first_in t i ≤ a.g) × (first_in t i ≤ get_or t (i * 4 + 5) 0) × ((a.g - first_in t i) * (wide_in t i + 16) + (wide_in t i + 16) ≤ 1073741824)) =
-    let home = c.requires.home in let e = c.file_of-i.ensures in let h : c.file_of-i.result < records_of home.z home.l = omega (arith, e.0, home.below) in ( row_room _ _ _ home.tabled _ h, e.1, omega (arith, next_first c.args.table.now c.file_of-i.result, e.1, e.2), gen_room c.args.chain home.tabled _ _ h e.1 e.2, ) in
-    omega (arith, here)
+    omega (arith, here c.args.chain c.requires.home c.file_of-i.ensures)
 
 pub offset_bounds-table-i-2 : goal.offset_bounds-table-i-2
 offset_bounds-table-i-2 c =
-    let here : (let a = c.args in let t = a.table.now in let i = c.file_of-i.result in (i * 4 + 5 < length t) × (first_in t i ≤ a.g) × (first_in t i ≤ get_or t (i * 4 + 5) 0) × ((a.g - first_in t i) * (wide_in t i + 16) + (wide_in t i + 16) ≤ 1073741824)) =
-    let home = c.requires.home in let e = c.file_of-i.ensures in let h : c.file_of-i.result < records_of home.z home.l = omega (arith, e.0, home.below) in ( row_room _ _ _ home.tabled _ h, e.1, omega (arith, next_first c.args.table.now c.file_of-i.result, e.1, e.2), gen_room c.args.chain home.tabled _ _ h e.1 e.2, ) in
-    omega (arith, here)
+    omega (arith, here c.args.chain c.requires.home c.file_of-i.ensures)
 
 pub bounds-table-i-2 : goal.bounds-table-i-2
 bounds-table-i-2 c =
-    let here : (let a = c.args in let t = a.table.now in let i = c.file_of-i.result in (i * 4 + 5 < length t) × (first_in t i ≤ a.g) × (first_in t i ≤ get_or t (i * 4 + 5) 0) × ((a.g - first_in t i) * (wide_in t i + 16) + (wide_in t i + 16) ≤ 1073741824)) =
-    let home = c.requires.home in let e = c.file_of-i.ensures in let h : c.file_of-i.result < records_of home.z home.l = omega (arith, e.0, home.below) in ( row_room _ _ _ home.tabled _ h, e.1, omega (arith, next_first c.args.table.now c.file_of-i.result, e.1, e.2), gen_room c.args.chain home.tabled _ _ h e.1 e.2, ) in
-    omega (arith, here)
+    omega (arith, here c.args.chain c.requires.home c.file_of-i.ensures)
 
 pub overflow_add-i : goal.overflow_add-i
 overflow_add-i c =
-    let here : (let a = c.args in let t = a.table.now in let i = c.file_of-i.result in (i * 4 + 5 < length t) × (first_in t i ≤ a.g) × (first_in t i ≤ get_or t (i * 4 + 5) 0) × ((a.g - first_in t i) * (wide_in t i + 16) + (wide_in t i + 16) ≤ 1073741824)) =
-    let home = c.requires.home in let e = c.file_of-i.ensures in let h : c.file_of-i.result < records_of home.z home.l = omega (arith, e.0, home.below) in ( row_room _ _ _ home.tabled _ h, e.1, omega (arith, next_first c.args.table.now c.file_of-i.result, e.1, e.2), gen_room c.args.chain home.tabled _ _ h e.1 e.2, ) in
-    omega (arith, here)
+    omega (arith, here c.args.chain c.requires.home c.file_of-i.ensures)
 
 pub offset_bounds-table-i-3 : goal.offset_bounds-table-i-3
 offset_bounds-table-i-3 c =
-    let here : (let a = c.args in let t = a.table.now in let i = c.file_of-i.result in (i * 4 + 5 < length t) × (first_in t i ≤ a.g) × (first_in t i ≤ get_or t (i * 4 + 5) 0) × ((a.g - first_in t i) * (wide_in t i + 16) + (wide_in t i + 16) ≤ 1073741824)) =
-    let home = c.requires.home in let e = c.file_of-i.ensures in let h : c.file_of-i.result < records_of home.z home.l = omega (arith, e.0, home.below) in ( row_room _ _ _ home.tabled _ h, e.1, omega (arith, next_first c.args.table.now c.file_of-i.result, e.1, e.2), gen_room c.args.chain home.tabled _ _ h e.1 e.2, ) in
-    omega (arith, here)
+    omega (arith, here c.args.chain c.requires.home c.file_of-i.ensures)
 
 pub bounds-table-i-3 : goal.bounds-table-i-3
 bounds-table-i-3 c =
-    let here : (let a = c.args in let t = a.table.now in let i = c.file_of-i.result in (i * 4 + 5 < length t) × (first_in t i ≤ a.g) × (first_in t i ≤ get_or t (i * 4 + 5) 0) × ((a.g - first_in t i) * (wide_in t i + 16) + (wide_in t i + 16) ≤ 1073741824)) =
-    let home = c.requires.home in let e = c.file_of-i.ensures in let h : c.file_of-i.result < records_of home.z home.l = omega (arith, e.0, home.below) in ( row_room _ _ _ home.tabled _ h, e.1, omega (arith, next_first c.args.table.now c.file_of-i.result, e.1, e.2), gen_room c.args.chain home.tabled _ _ h e.1 e.2, ) in
-    omega (arith, here)
+    omega (arith, here c.args.chain c.requires.home c.file_of-i.ensures)
 
 pub overflow_add-i-2 : goal.overflow_add-i-2
 overflow_add-i-2 c =
-    let here : (let a = c.args in let t = a.table.now in let i = c.file_of-i.result in (i * 4 + 5 < length t) × (first_in t i ≤ a.g) × (first_in t i ≤ get_or t (i * 4 + 5) 0) × ((a.g - first_in t i) * (wide_in t i + 16) + (wide_in t i + 16) ≤ 1073741824)) =
-    let home = c.requires.home in let e = c.file_of-i.ensures in let h : c.file_of-i.result < records_of home.z home.l = omega (arith, e.0, home.below) in ( row_room _ _ _ home.tabled _ h, e.1, omega (arith, next_first c.args.table.now c.file_of-i.result, e.1, e.2), gen_room c.args.chain home.tabled _ _ h e.1 e.2, ) in
-    omega (arith, here)
+    omega (arith, here c.args.chain c.requires.home c.file_of-i.ensures)
 
 pub offset_bounds-table-i-4 : goal.offset_bounds-table-i-4
 offset_bounds-table-i-4 c =
-    let here : (let a = c.args in let t = a.table.now in let i = c.file_of-i.result in (i * 4 + 5 < length t) × (first_in t i ≤ a.g) × (first_in t i ≤ get_or t (i * 4 + 5) 0) × ((a.g - first_in t i) * (wide_in t i + 16) + (wide_in t i + 16) ≤ 1073741824)) =
-    let home = c.requires.home in let e = c.file_of-i.ensures in let h : c.file_of-i.result < records_of home.z home.l = omega (arith, e.0, home.below) in ( row_room _ _ _ home.tabled _ h, e.1, omega (arith, next_first c.args.table.now c.file_of-i.result, e.1, e.2), gen_room c.args.chain home.tabled _ _ h e.1 e.2, ) in
-    omega (arith, here)
+    omega (arith, here c.args.chain c.requires.home c.file_of-i.ensures)
 
 pub bounds-table-i-4 : goal.bounds-table-i-4
 bounds-table-i-4 c =
-    let here : (let a = c.args in let t = a.table.now in let i = c.file_of-i.result in (i * 4 + 5 < length t) × (first_in t i ≤ a.g) × (first_in t i ≤ get_or t (i * 4 + 5) 0) × ((a.g - first_in t i) * (wide_in t i + 16) + (wide_in t i + 16) ≤ 1073741824)) =
-    let home = c.requires.home in let e = c.file_of-i.ensures in let h : c.file_of-i.result < records_of home.z home.l = omega (arith, e.0, home.below) in ( row_room _ _ _ home.tabled _ h, e.1, omega (arith, next_first c.args.table.now c.file_of-i.result, e.1, e.2), gen_room c.args.chain home.tabled _ _ h e.1 e.2, ) in
-    omega (arith, here)
+    omega (arith, here c.args.chain c.requires.home c.file_of-i.ensures)
 
 pub overflow_sub-table : goal.overflow_sub-table
 overflow_sub-table c =
-    let here : (let a = c.args in let t = a.table.now in let i = c.file_of-i.result in (i * 4 + 5 < length t) × (first_in t i ≤ a.g) × (first_in t i ≤ get_or t (i * 4 + 5) 0) × ((a.g - first_in t i) * (wide_in t i + 16) + (wide_in t i + 16) ≤ 1073741824)) =
-    let home = c.requires.home in let e = c.file_of-i.ensures in let h : c.file_of-i.result < records_of home.z home.l = omega (arith, e.0, home.below) in ( row_room _ _ _ home.tabled _ h, e.1, omega (arith, next_first c.args.table.now c.file_of-i.result, e.1, e.2), gen_room c.args.chain home.tabled _ _ h e.1 e.2, ) in
-    omega (arith, here)
+    omega (arith, here c.args.chain c.requires.home c.file_of-i.ensures)
 
 pub overflow_add-w-2 : goal.overflow_add-w-2
 overflow_add-w-2 c =
-    let here : (let a = c.args in let t = a.table.now in let i = c.file_of-i.result in (i * 4 + 5 < length t) × (first_in t i ≤ a.g) × (first_in t i ≤ get_or t (i * 4 + 5) 0) × ((a.g - first_in t i) * (wide_in t i + 16) + (wide_in t i + 16) ≤ 1073741824)) =
-    let home = c.requires.home in let e = c.file_of-i.ensures in let h : c.file_of-i.result < records_of home.z home.l = omega (arith, e.0, home.below) in ( row_room _ _ _ home.tabled _ h, e.1, omega (arith, next_first c.args.table.now c.file_of-i.result, e.1, e.2), gen_room c.args.chain home.tabled _ _ h e.1 e.2, ) in
-    omega (arith, here)
+    omega (arith, here c.args.chain c.requires.home c.file_of-i.ensures)
 
 pub overflow_sub-g : goal.overflow_sub-g
 overflow_sub-g c =
-    let here : (let a = c.args in let t = a.table.now in let i = c.file_of-i.result in (i * 4 + 5 < length t) × (first_in t i ≤ a.g) × (first_in t i ≤ get_or t (i * 4 + 5) 0) × ((a.g - first_in t i) * (wide_in t i + 16) + (wide_in t i + 16) ≤ 1073741824)) =
-    let home = c.requires.home in let e = c.file_of-i.ensures in let h : c.file_of-i.result < records_of home.z home.l = omega (arith, e.0, home.below) in ( row_room _ _ _ home.tabled _ h, e.1, omega (arith, next_first c.args.table.now c.file_of-i.result, e.1, e.2), gen_room c.args.chain home.tabled _ _ h e.1 e.2, ) in
-    omega (arith, here)
+    omega (arith, here c.args.chain c.requires.home c.file_of-i.ensures)
 
 pub overflow_add-w-3 : goal.overflow_add-w-3
 overflow_add-w-3 c =
-    let here : (let a = c.args in let t = a.table.now in let i = c.file_of-i.result in (i * 4 + 5 < length t) × (first_in t i ≤ a.g) × (first_in t i ≤ get_or t (i * 4 + 5) 0) × ((a.g - first_in t i) * (wide_in t i + 16) + (wide_in t i + 16) ≤ 1073741824)) =
-    let home = c.requires.home in let e = c.file_of-i.ensures in let h : c.file_of-i.result < records_of home.z home.l = omega (arith, e.0, home.below) in ( row_room _ _ _ home.tabled _ h, e.1, omega (arith, next_first c.args.table.now c.file_of-i.result, e.1, e.2), gen_room c.args.chain home.tabled _ _ h e.1 e.2, ) in
-    omega (arith, here)
+    omega (arith, here c.args.chain c.requires.home c.file_of-i.ensures)
 
 pub overflow_mul-g : goal.overflow_mul-g
 overflow_mul-g c =
-    let here : (let a = c.args in let t = a.table.now in let i = c.file_of-i.result in (i * 4 + 5 < length t) × (first_in t i ≤ a.g) × (first_in t i ≤ get_or t (i * 4 + 5) 0) × ((a.g - first_in t i) * (wide_in t i + 16) + (wide_in t i + 16) ≤ 1073741824)) =
-    let home = c.requires.home in let e = c.file_of-i.ensures in let h : c.file_of-i.result < records_of home.z home.l = omega (arith, e.0, home.below) in ( row_room _ _ _ home.tabled _ h, e.1, omega (arith, next_first c.args.table.now c.file_of-i.result, e.1, e.2), gen_room c.args.chain home.tabled _ _ h e.1 e.2, ) in
-    omega (arith, here)
+    omega (arith, here c.args.chain c.requires.home c.file_of-i.ensures)
 
 pub overflow_add-g : goal.overflow_add-g
 overflow_add-g c =
-    let here : (let a = c.args in let t = a.table.now in let i = c.file_of-i.result in (i * 4 + 5 < length t) × (first_in t i ≤ a.g) × (first_in t i ≤ get_or t (i * 4 + 5) 0) × ((a.g - first_in t i) * (wide_in t i + 16) + (wide_in t i + 16) ≤ 1073741824)) =
-    let home = c.requires.home in let e = c.file_of-i.ensures in let h : c.file_of-i.result < records_of home.z home.l = omega (arith, e.0, home.below) in ( row_room _ _ _ home.tabled _ h, e.1, omega (arith, next_first c.args.table.now c.file_of-i.result, e.1, e.2), gen_room c.args.chain home.tabled _ _ h e.1 e.2, ) in
-    omega (arith, here)
+    omega (arith, here c.args.chain c.requires.home c.file_of-i.ensures)
 
 pub overflow_add-g-2 : goal.overflow_add-g-2
 overflow_add-g-2 c =
-    let here : (let a = c.args in let t = a.table.now in let i = c.file_of-i.result in (i * 4 + 5 < length t) × (first_in t i ≤ a.g) × (first_in t i ≤ get_or t (i * 4 + 5) 0) × ((a.g - first_in t i) * (wide_in t i + 16) + (wide_in t i + 16) ≤ 1073741824)) =
-    let home = c.requires.home in let e = c.file_of-i.ensures in let h : c.file_of-i.result < records_of home.z home.l = omega (arith, e.0, home.below) in ( row_room _ _ _ home.tabled _ h, e.1, omega (arith, next_first c.args.table.now c.file_of-i.result, e.1, e.2), gen_room c.args.chain home.tabled _ _ h e.1 e.2, ) in
-    omega (arith, here)
+    omega (arith, here c.args.chain c.requires.home c.file_of-i.ensures)
 
 pub returns : goal.returns
 returns c =

@@ -6,4 +6,4 @@ use Rattle.exports.proofs.single.jampreso_file_list.Goals as goal
 pub returns : goal.returns
 returns c =
     rw (← c.file_of.ensures)
-    (c.total_flat.ensures ∙ ap flat_total c.list_at.ensures.answer.is, c.list_at.ensures.holds)
+    (record { answer = c.total_flat.ensures ∙ ap flat_total c.list_at.ensures.answer.is; holds = c.list_at.ensures.holds })

@@ -6,5 +6,5 @@ use Rattle.exports.proofs.single.jampreso_file_open.Goals as goal
 
 pub returns : goal.returns
 returns c =
-    opened _ (λ i. (c.type_inv.s i).fits)
-    (c.opened_flat.ensures ∙ ap flat_opened c.«open».ensures.is)
+    let p = opened c.args.s.now (λ i. (c.type_inv.s i).fits) (c.opened_flat.ensures ∙ ap flat_opened c.«open».ensures.is) in
+    record { is = p.0; back = p.1 }

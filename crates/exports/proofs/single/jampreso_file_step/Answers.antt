@@ -6,5 +6,5 @@ use Rattle.exports.proofs.single.jampreso_file_step.Goals as goal
 
 pub returns : goal.returns
 returns c =
-    rw (← c.file_of.ensures, ← c.phase_of.ensures.is)
-    (stepped _ (c.stepped_flat.ensures ∙ ap flat_stepped c.step_at.ensures.is))
+    let p = stepped _ (c.stepped_flat.ensures ∙ ap flat_stepped c.step_at.ensures.is) in
+    rw (← c.file_of.ensures, ← c.phase_of.ensures.is) (record { is = p.0; next = p.1 })

@@ -12,10 +12,10 @@ loop-n-init c = (refl, fill_begins _ _)
 
 pub loop-n-preserved : goal.loop-n-preserved
 loop-n-preserved c = (
-      search rules,
-      fill_next c.loop-n.invariant.1
-          (rest_parent _ _ _ _ _ c.step_in-x.ensures.is c.in-Parent.is) (search rules),
-    )
+  search rules,
+  fill_next c.loop-n.invariant.1
+      (rest_parent _ _ _ _ _ c.step_in-x.ensures.is c.in-Parent.is) (search rules),
+)
 
 pub returns-in-Refused : goal.returns-in-Refused
 returns-in-Refused c =

@@ -19,7 +19,7 @@ unfolding total_by
 returns-then-out-n c =
     let k = commit_given _ _ _ c.commit_at.ensures.is c.in-Commit.is in
     let counted : total_by c.args.pos.0 (Count c.in-Count.n) ≡ total_of c.args.s.now c.args.f c.args.pos.0 =
-        total_plain _ _ _ k.0.rule (c.count_in.ensures.is ∙ rw (k.1, c.present-there.ensures, c.edge-e.ensures.bytes)) c.in-Count.is in
+    total_plain _ _ _ k.0.rule (c.count_in.ensures.is ∙ rw (k.1, c.present-there.ensures, c.edge-e.ensures.bytes)) c.in-Count.is in
     let t = list_full c.args.s.now c.args.f c.args.pos.0 c.args.out.now counted c.if-out-n.true in
     record { answer = answers (ap Refused c.at-then-out-n.ensures ∙ t.0); holds = t.1 }
 
@@ -34,7 +34,7 @@ unfolding total_by
 returns-in-Refused-count_in c =
     let k = commit_given _ _ _ c.commit_at.ensures.is c.in-Commit.is in
     let counted : total_by c.args.pos.0 (Stopped c.in-Refused-count_in.m) ≡ total_of c.args.s.now c.args.f c.args.pos.0 =
-        total_plain _ _ _ k.0.rule (c.count_in.ensures.is ∙ rw (k.1, c.present-there.ensures, c.edge-e.ensures.bytes)) c.in-Refused-count_in.is in
+    total_plain _ _ _ k.0.rule (c.count_in.ensures.is ∙ rw (k.1, c.present-there.ensures, c.edge-e.ensures.bytes)) c.in-Refused-count_in.is in
     let t = list_short c.args.s.now c.args.f c.args.pos.0 c.args.out.now (ap Refused c.at.ensures ∙ counted) in
     record { answer = answers t.0; holds = t.1 }
 
@@ -43,7 +43,7 @@ unfolding total_by walk_of
 returns-else-out-n c =
     let k = commit_given _ _ _ c.commit_at.ensures.is c.in-Commit.is in
     let counted : total_by c.args.pos.0 (Count c.in-Count.n) ≡ total_of c.args.s.now c.args.f c.args.pos.0 =
-        total_plain _ _ _ k.0.rule (c.count_in.ensures.is ∙ rw (k.1, c.present-there.ensures, c.edge-e.ensures.bytes)) c.in-Count.is in
+    total_plain _ _ _ k.0.rule (c.count_in.ensures.is ∙ rw (k.1, c.present-there.ensures, c.edge-e.ensures.bytes)) c.in-Count.is in
     let t = list_whole c.args.s.now c.args.f c.args.pos.0 c.args.out.now counted c.if-out-n.false
-        (c.fill_in.ensures ∙ rw (k.1, c.present-there.ensures, c.edge-e.ensures.bytes)) in
+    (c.fill_in.ensures ∙ rw (k.1, c.present-there.ensures, c.edge-e.ensures.bytes)) in
     record { answer = answers t.0; holds = t.1 }

@@ -24,7 +24,7 @@ returns-then-t-gt0 c =
     let q = parts a.w a.fan.now a.ids.now a.rows.now a.edge.now a.there in
     let i = c.loop-c.c in
     let tried : Told (commit_rule q i) (parents_in q i) (gen_in q i) c.attempt-t.result =
-        tried_is _ c.requires c.loop-c-test.true c.row_in-a.ensures.is c.attempt-t.ensures in
+    tried_is _ c.requires c.loop-c-test.true c.row_in-a.ensures.is c.attempt-t.ensures in
     scan_stops c.loop-c.invariant c.loop-c-test.true tried _ c.if-t-gt0.true refl refl
 
 pub overflow_add-counts : goal.overflow_add-counts
@@ -33,7 +33,7 @@ overflow_add-counts c =
     let q = parts a.w a.fan.now a.ids.now a.rows.now a.edge.now a.there in
     let i = c.loop-c.c in
     let tried : Told (commit_rule q i) (parents_in q i) (gen_in q i) c.attempt-t.result =
-        tried_is _ c.requires c.loop-c-test.true c.row_in-a.ensures.is c.attempt-t.ensures in
+    tried_is _ c.requires c.loop-c-test.true c.row_in-a.ensures.is c.attempt-t.ensures in
     let small = scan_small c.loop-c.invariant c.loop-c-test.true tried c.if-t-gt0.false
     c.key-k.ensures.0 c.key-k.ensures.1 in
     let l : c.loop-c.c < c.args.n = c.loop-c-test.true in
@@ -53,7 +53,7 @@ loop-c-preserved c =
     let q = parts a.w a.fan.now a.ids.now a.rows.now a.edge.now a.there in
     let i = c.loop-c.c in
     let tried : Told (commit_rule q i) (parents_in q i) (gen_in q i) c.attempt-t.result =
-        tried_is _ c.requires c.loop-c-test.true c.row_in-a.ensures.is c.attempt-t.ensures in
+    tried_is _ c.requires c.loop-c-test.true c.row_in-a.ensures.is c.attempt-t.ensures in
     scan_next c.loop-c.invariant c.loop-c-test.true tried c.if-t-gt0.false
     c.key-k.ensures.0 c.key-k.ensures.1 (elim c.if-highest-t.branch [ then-highest-t w ↦ omega arith | else-highest-t w ↦ omega arith ])
     c.lower-lowest.ensures (elim c.if-most-t.branch [ then-most-t w ↦ omega arith | else-most-t w ↦ omega arith ])

@@ -1,0 +1,9 @@
+-- `cases::record::fill` meets its contract. The invariant: what was read lies in `buf`. The measure: the bytes of `buf` left.
+use Rattle.std.proofs.Common.{length, ◌-◌, ◌≤◌}
+use Rattle.cases.proofs.record.fill.Given as goal
+
+abbrev pub invariant-loop-done : goal.invariant-loop-done
+invariant-loop-done g l = l.done ≤ length l.buf
+
+abbrev pub decreases-loop-done : goal.decreases-loop-done
+decreases-loop-done g l = length l.buf - l.done
