@@ -1,6 +1,6 @@
 """Holds the proof files to what a reader can bear, and prints the figures that docs/DECISIONS.md gives.
 
-A file is any .antt below crates/*/proofs. A `use` line is as long as the formatter makes it, and is left out of the widths. Left out of the bytes are the files that show results equal (Results.antt, Determined.antt)
+A file is any .antt below crates/*/proofs. Left out of the bytes are the files that show results equal (Results.antt, Determined.antt)
 and that show what an enum says (Saying.antt). A run is `.before` written several times in a row; it may be longer than six only where
 it stands in a `let` whose name is used at least twice. A function's proof is what lies in its folder: Invariants.antt, Answers.antt and
 Proof.antt, those that are there. A header is the comment that a file begins with, and a proof's header that of any of its files; the stock
@@ -43,8 +43,6 @@ def main():
             size += len(text.encode())
         before += len(re.findall(r"\.before\b", text))
         for n, line in enumerate(text.split("\n"), 1):
-            if line.startswith("use "):
-                continue
             longest = max(longest, len(line))
             if len(line) > WIDTH:
                 wide += 1

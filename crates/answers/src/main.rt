@@ -14,7 +14,7 @@ use file::init::open;
 use file::{File, Opening};
 use prints::print::{number, print, refusal};
 use std::io;
-use std::io::{BufReader, BufWriter, Read, Write};
+use std::io::{Read, Write};
 use types::file::Position;
 use words::big::{be32, be64};
 
@@ -85,8 +85,8 @@ fn record<R: Read, W: Write>(from: &mut R, out: &mut W) -> io::Result<bool> {
 
 // The turns are counted, for nothing says that the input ends.
 fn main(rt: HostRuntime) -> io::Result<()> {
-    let mut from = BufReader::new(rt.alloc(), rt.reader())?;
-    let mut out = BufWriter::new(rt.alloc(), io::writer(&rt))?;
+    let mut from = rt.reader();
+    let mut out = io::writer(&rt);
     for _ in 0..u64::MAX {
         if !record(&mut from, &mut out)? {
             break;

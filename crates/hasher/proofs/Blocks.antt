@@ -1,5 +1,38 @@
 -- Messages put together, over the step that one block makes: the words after the whole blocks of a list, and what is left behind them.
-use Rattle.std.proofs.Common.{◌≡◌, ℕ, zero, suc, ◌+◌, ◌-◌, ◌*◌, ◌/◌, ◌%◌, ◌<◌, ◌≤◌, List, ◌++◌, length, take, drop, sym, refl, ap, ◌∙◌, ap₂, append_assoc, append-nil, le_of_eq, add-zero, add-suc, arith, length-append, length-drop, take-append-drop, length-take-le, take_all}
+use Rattle.std.proofs.Common.{
+  ◌≡◌,
+  ℕ,
+  zero,
+  suc,
+  ◌+◌,
+  ◌-◌,
+  ◌*◌,
+  ◌/◌,
+  ◌%◌,
+  ◌<◌,
+  ◌≤◌,
+  List,
+  ◌++◌,
+  length,
+  take,
+  drop,
+  sym,
+  refl,
+  ap,
+  ◌∙◌,
+  ap₂,
+  append_assoc,
+  append-nil,
+  le_of_eq,
+  add-zero,
+  add-suc,
+  arith,
+  length-append,
+  length-drop,
+  take-append-drop,
+  length-take-le,
+  take_all,
+}
 use lib.Seq.{take-append-le, drop-append-le, drop-append-add}
 use Rattle.block.specs.Message.{block, after, after_all}
 use Rattle.hasher.specs.Feed.{rest, padded}

@@ -1,4 +1,5 @@
-// Words of a line: bytes as they are, numbers, bytes in digits, refusals. Each is written to `out`.
+// Words of a line: bytes as they are, numbers, bytes in digits, refusals. Each is written to `out`; where a write fails, that error is handed back,
+// and the front of the word may have been written.
 use std::io;
 use std::io::Write;
 use types::refusal::Refusal;

@@ -10,7 +10,7 @@ use cases::record::{read, room};
 use prints::print::print;
 use report::report;
 use std::io;
-use std::io::{BufReader, BufWriter, Read, Write};
+use std::io::{Read, Write};
 
 // Prints what the program says for one input.
 fn answer<W: Write>(out: &mut W, input: &[u8]) -> io::Result<()> {
@@ -44,8 +44,8 @@ fn record<R: Read, W: Write>(from: &mut R, out: &mut W) -> io::Result<bool> {
 
 // The turns are counted, for nothing says that the input ends.
 fn main(rt: HostRuntime) -> io::Result<()> {
-    let mut from = BufReader::new(rt.alloc(), rt.reader())?;
-    let mut out = BufWriter::new(rt.alloc(), io::writer(&rt))?;
+    let mut from = rt.reader();
+    let mut out = io::writer(&rt);
     for _ in 0..u64::MAX {
         if !record(&mut from, &mut out)? {
             break;

@@ -7,7 +7,7 @@ ghost use Rattle.std.specs.Prelude.{◌≡◌, min};
 use digest::sha1;
 use hasher::Hasher;
 use std::io;
-use std::io::{BufWriter, Write};
+use std::io::Write;
 
 // The hexadecimal digit of x modulo 16.
 fn digit(x: u8) -> u8 {
@@ -75,7 +75,7 @@ fn split<W: Write>(out: &mut W, p: [u8; 200]) -> io::Result<()> {
 }
 
 fn main(rt: HostRuntime) -> io::Result<()> {
-    let mut out = BufWriter::new(rt.alloc(), io::writer(&rt))?;
+    let mut out = io::writer(&rt);
     print(&mut out, sha1(b""))?;
     print(&mut out, sha1(b"abc"))?;
     print(
