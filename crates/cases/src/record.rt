@@ -1,6 +1,7 @@
 // A record of standard input, or of another reader: a kind, a length of 4 bytes and that many bytes.
-ghost use Rattle.std.specs.Prelude.{◌≡◌, length, IfOk, OnErr};
-ghost use Rattle.cases.specs.Counts.{IsPrefixLen};
+ghost use Rattle.std.specs.Prelude.{◌≡◌, ◌<◌, false, length, take, IfOk, OnErr};
+ghost use Rattle.std.specs.Io.KnownBytes.{Consumes, IsAtEnd};
+ghost use Rattle.cases.specs.Counts.{IsPrefixLen, ReadsFront, ReadsPart, ReadsIf};
 
 use std::io;
 use std::io::Read;
@@ -22,7 +23,8 @@ pub fn room() -> [u8; 320000]
 }
 
 fn none() -> Record
-    ensures { result.size ≡ 0 }
+    ensures there { result.there ≡ false }
+    ensures size { result.size ≡ 0 }
 {
     Record {
         there: false,
@@ -31,11 +33,13 @@ fn none() -> Record
     }
 }
 
-// Reads until `buf` is full or the input ends, and hands back how many bytes it put at the start of `buf`. Where a read fails, that error is
-// handed back, and `buf` holds what was read until then.
+// Reads until `buf` is full or the input ends, and hands back how many bytes it put at the start of `buf`: they are what was taken from `from`,
+// and where they do not fill `buf`, `from` has no more. An error comes only before `buf` is full; what was taken until then is a front of `buf`.
 pub fn fill<R: Read>(from: &mut R, buf: &mut [u8]) -> io::Result<usize>
     ensures ok { IfOk result (λ n. IsPrefixLen n buf.new) }
-    ensures err { OnErr result (length buf.new ≡ length buf.old) }
+    ensures bytes { IfOk result (λ n. Consumes (R.remaining from.old) (R.remaining from.new) (take n buf.new)) }
+    ensures end { IfOk result (λ n. n < length buf.new → IsAtEnd (R.remaining from.new)) }
+    ensures err { OnErr result (ReadsFront (R.remaining from.old) (R.remaining from.new) buf.new) }
 {
     let mut done = 0;
     while done < buf.len() {
@@ -48,11 +52,13 @@ pub fn fill<R: Read>(from: &mut R, buf: &mut [u8]) -> io::Result<usize>
     Ok(done)
 }
 
-// Reads one record, and puts its bytes at the start of `buf`. There is none where the input ends, or where `buf` is too small.
-// Where a read fails, that error is handed back, and `buf` holds what was read until then.
+// Reads one record, and puts its bytes at the start of `buf`: what was taken is its head, of kind and size, and these bytes. There is none where the
+// input ends within it or before it, or where it is larger than `buf`; then no more than its head was taken. An error comes only before the record is
+// whole; what was taken until then is a part of a head, or a head and a front of `buf`.
 pub fn read<R: Read>(from: &mut R, buf: &mut [u8]) -> io::Result<Record>
     ensures ok { IfOk result (λ r. IsPrefixLen r.size buf.new) }
-    ensures err { OnErr result (length buf.new ≡ length buf.old) }
+    ensures bytes { IfOk result (λ r. ReadsIf (R.remaining from.old) (R.remaining from.new) r.there r.kind r.size buf.new) }
+    ensures err { OnErr result (ReadsPart (R.remaining from.old) (R.remaining from.new) buf.new) }
 {
     let mut head = [0u8; 5];
     if fill(from, &mut head)? < 5 {
