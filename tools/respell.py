@@ -3,7 +3,7 @@
 
 usage: python3 tools/respell.py [--list] ROOT
 
-It was run once, after /opt/rattle/port/port.py and before anything was mended by hand (docs/PORT.md). A name is turned wherever it stands as a word:
+It was run once, after the kit's port.py and before anything was mended by hand (docs/PORT.md). A name is turned wherever it stands as a word:
 in .antt and .rt files, in must-fail edits, and in code spans of README.md and docs/. A name that begins with a capital letter stays, and so does
 a name that a proof by hand gave to one need of its function. Names that would fall together with others have a spelling of their own in APART.
 --list writes nothing and prints the old and new names.

@@ -1,10 +1,10 @@
--- What the contracts of `cases`'s counts cite.
+-- What the contracts of `cases` say: how many bytes stand in a buffer, and what was taken from a reader.
 use Rattle.std.specs.Prelude.{◌≡◌, ℕ, ◌≤◌, ◌<◌, ◌⊎◌, Bool, true, false, List, ◌++◌, length, take, get_or}
 use Rattle.std.specs.Io.KnownBytes.{Consumes, IsAtEnd}
 use Rattle.std.specs.declared.option.Option.{Option}
 use Rattle.words.specs.Big.{be}
 
--- `&xs[..n]` is in bounds and has n bytes. The second part follows from the first, and spares a caller's `&buf[..n]` a proof file.
+-- xs has a front of n bytes, and n is that front's length: said twice, so that whoever cuts it needs no proof
 abbrev pub IsPrefixLen : ℕ → List ℕ → Type 0
 IsPrefixLen n xs = (n ≤ length xs) × (n ≡ length (take n xs))
 
