@@ -1,8 +1,7 @@
 """For each public function of the library, the lines that show: any two results that its promise allows on the same arguments are equal.
 
 Makes crates/NAME/proofs/Results.antt from the sources. A lemma is stated over the promise as the function's caller learns it
-(`Reads.Learnt`, which the prover makes of the contract itself), so nothing of a contract is written twice. Where a function only writes to
-a stream, any two results are equal that are no errors (`DeterminedOk`). With --check nothing is written, and a file that differs, or a public function that has no lemma and no row in docs/EXCEPTIONS.md, is told and fails.
+(`Reads.Learnt`, which the prover makes of the contract itself), so nothing of a contract is written twice. With --check nothing is written, and a file that differs, or a public function that has no lemma and no row in docs/EXCEPTIONS.md, is told and fails.
 """
 import re
 import sys
@@ -10,19 +9,10 @@ from pathlib import Path
 
 CRATES = Path("crates")
 EXCEPTIONS = Path("docs/EXCEPTIONS.md")
-HEAD = "-- Any two results that a public function's promise allows on the same arguments are equal%s. Made by tests/results.py.\n"
+HEAD = "-- Any two results that a public function's promise allows on the same arguments are equal. Made by tests/results.py.\n"
 RESERVED = {"open": "«open»"}
 # a promise of another form than those below: the crate's own file of this name has the lemma
 BY_HAND = {("walk", "next_parent"): "Steps"}
-# what a lemma on a function over any stream takes before its arguments, and where these names come from
-STREAM = "(t : RattleType) (l : Laws t) (g : Ghosts t.Denot) (b : Dict)"
-STREAM_USES = """use Rattle.std.proofs.Common.{refl}
-use denote.Param.Laws.{Laws}
-use denote.RattleType.{RattleType}
-use mir.Syntax.{Dict}
-use Rattle.std.specs.declared.io.traits.Write.{Ghosts}
-use Rattle.prints.proofs.Done.{DeterminedOk}
-"""
 
 
 def sources(crate):
@@ -91,8 +81,6 @@ def lemmas(name, whole):
     n = len(clauses)
     if result is None and n == 0:
         return [("determined", "Determined {}", "refl")]
-    if n == 0 and result.group(1) == "io::Result<()>" and re.match(r"\s*pub fn \w+<W: Write>\(", whole):
-        return [("determined", "DeterminedOk", "refl")]
     out = []
     for i, claim in enumerate(clauses):
         at = place(i, n)
@@ -131,7 +119,7 @@ def page(crate):
                     missing.append((path, name))
                 continue
             found = lemmas(name, whole)
-            if "held" not in [x[0] for x in found] and "&mut" in whole.split("ensures")[0] and "DeterminedOk" not in [x[1] for x in found]:
+            if "held" not in [x[0] for x in found] and "&mut" in whole.split("ensures")[0]:
                 found = []  # what it leaves in what it was lent has no equation
             if "determined" not in [x[0] for x in found] and ") ->" in whole or not found:
                 missing.append((path, name))
@@ -144,17 +132,15 @@ def page(crate):
             alias = given.get(module, RESERVED.get(short, short))
             uses.append(f"use {module} as {alias}\n")
             for ending, claim, proof in found:
-                before, first = ("", "") if claim != "DeterminedOk" else (f"{STREAM} → ", "t l g b ")
-                said = claim.format(alias + ".Learnt") if not first else f"DeterminedOk ({alias}.Learnt t l g b)"
-                body.append(f"\npub {short}_{ending} : {before}{said}\n{short}_{ending} {first}κs a y z d e p q = {proof}\n")
+                said = claim.format(alias + ".Learnt")
+                body.append(f"\npub {short}_{ending} : {said}\n{short}_{ending} κs a y z d e p q = {proof}\n")
     if not body:
         return None, missing
     words = "".join(body)
     names = [x for x in ("same", "same_part", "Determined", "DeterminedPart", "DeterminedHeld") if re.search(rf"(?<![\w-]){x}(?![\w-])", words)]
-    streams = STREAM in words
-    first = STREAM_USES if streams else "use mathlib.Core.Path.{refl}\n" if " = refl\n" in words else ""
+    first = "use mathlib.Core.Path.{refl}\n" if " = refl\n" in words else ""
     first += f"use Rattle.words.proofs.Determined.{{{', '.join(names)}}}\n" if names else ""
-    return HEAD % (", where no write fails" if streams else "") + first + "".join(uses) + words, missing
+    return HEAD + first + "".join(uses) + words, missing
 
 
 def main():

@@ -4,8 +4,6 @@ use commit::{Asked, commit_at, tree_at};
 use file::File;
 use parents::{Total, count_at};
 use prints::print::{hex, number, print, refusal};
-use std::io;
-use std::io::Write;
 use types::file::Position;
 use types::refusal::Refusal;
 
@@ -33,33 +31,36 @@ fn same_total(a: Total, b: Total) -> bool {
 }
 
 // Prints the line of a commit. Says whether the walk met as many parents as the count says.
-fn line<W: Write>(out: &mut W, s: &[u8], f: File, pos: Position) -> io::Result<bool> {
-    hex(out, access::id_at(s, f, pos))?;
-    print(out, b" ")?;
-    hex(out, tree_at(s, f, pos))?;
-    match commit_at(s, f, pos) {
+fn line(s: &[u8], f: File, pos: Position) -> bool {
+    hex(access::id_at(s, f, pos));
+    print(b" ");
+    hex(tree_at(s, f, pos));
+    let asked = commit_at(s, f, pos);
+    match asked {
         Asked::Commit(c) => {
-            number(out, c.time)?;
-            number(out, c.generation as u64)?;
+            number(c.time);
+            number(c.generation as u64);
         }
         Asked::Refused(r) => {
-            print(out, b" ")?;
-            refusal(out, r)?;
+            print(b" ");
+            refusal(r);
         }
     }
-    let met = walk(out, s, f, pos)?;
-    print(out, b"\n")?;
-    Ok(same_total(met, count_at(s, f, pos)))
+    let met = walk(s, f, pos);
+    print(b"\n");
+    same_total(met, count_at(s, f, pos))
 }
 
 // Prints the lines of all commits. Hands back the first whose count does not agree, or N.
-pub fn lines<W: Write>(out: &mut W, s: &[u8], f: File) -> io::Result<u32> {
+pub fn lines(s: &[u8], f: File) -> u32 {
     let n = f.commits;
     let mut bad = n;
-    for i in 0..n {
-        if !line(out, s, f, Position(i))? && n <= bad {
+    let mut i = 0;
+    while i < n {
+        if !line(s, f, Position(i)) && n <= bad {
             bad = i;
         }
+        i += 1;
     }
-    Ok(bad)
+    bad
 }

@@ -13,84 +13,81 @@ use cases::step::phase_of;
 use file::init::open;
 use file::{File, Opening};
 use prints::print::{number, print, refusal};
-use std::io;
-use std::io::{Read, Write};
 use types::file::Position;
 use words::big::{be32, be64};
 
 // Ends the line of a check: `first` is the first commit of `n` that it found bad, or `n`.
-fn print_checked<W: Write>(out: &mut W, first: u32, n: u32) -> io::Result<()> {
+fn print_checked(first: u32, n: u32) {
     if first < n {
-        print(out, b" BAD")?;
-        number(out, first as u64)?;
+        print(b" BAD");
+        number(first as u64);
     } else {
-        print(out, b" OK")?;
+        print(b" OK");
     }
-    print(out, b"\n")
+    print(b"\n");
 }
 
-fn answer_file<W: Write>(out: &mut W, s: &[u8], f: File) -> io::Result<()> {
-    let counted = lines::lines(out, s, f)?;
+fn answer_file(s: &[u8], f: File) {
+    let counted = lines::lines(s, f);
     let sought = seek::seek(s, f);
-    print(out, b"lookup")?;
-    print_checked(out, sought, f.commits)?;
-    print(out, b"counts")?;
-    print_checked(out, counted, f.commits)
+    print(b"lookup");
+    print_checked(sought, f.commits);
+    print(b"counts");
+    print_checked(counted, f.commits);
 }
 
-fn answer_open<W: Write>(out: &mut W, s: &[u8]) -> io::Result<()> {
-    match open(s) {
-        Opening::Open(f) => answer_file(out, s, f),
+fn answer_open(s: &[u8]) {
+    let o = open(s);
+    match o {
+        Opening::Open(f) => answer_file(s, f),
         Opening::Refused(r) => {
-            refusal(out, r)?;
-            print(out, b"\n")
+            refusal(r);
+            print(b"\n");
         }
     }
 }
 
-fn answer_step<W: Write>(out: &mut W, s: &[u8]) -> io::Result<bool> {
+fn answer_step(s: &[u8]) -> bool {
     if s.len() < 13 {
-        return Ok(false);
+        return false;
     }
     let pos = Position(be32(s, 0));
     let phase = phase_of(s[4], be64(s, 5) as usize);
     let file = &s[13..];
-    match open(file) {
-        Opening::Open(f) => walk::step(out, file, f, pos, phase)?,
-        Opening::Refused(r) => refusal(out, r)?,
+    let o = open(file);
+    match o {
+        Opening::Open(f) => walk::step(file, f, pos, phase),
+        Opening::Refused(r) => refusal(r),
     }
-    print(out, b"\n")?;
-    Ok(true)
+    print(b"\n");
+    true
 }
 
 // Answers one record. Says whether its kind is known.
-fn answer<W: Write>(out: &mut W, kind: u8, s: &[u8]) -> io::Result<bool> {
+fn answer(kind: u8, s: &[u8]) -> bool {
     match kind {
-        b'g' => answer_open(out, s)?,
-        b's' => return answer_step(out, s),
-        _ => return Ok(false),
+        b'g' => answer_open(s),
+        b's' => return answer_step(s),
+        _ => return false,
     }
-    Ok(true)
+    true
 }
 
 // Reads one record and answers it. Says whether there may be more.
-fn record<R: Read, W: Write>(from: &mut R, out: &mut W) -> io::Result<bool> {
+fn record() -> bool {
     let mut bytes = room();
-    let r = read(from, &mut bytes)?;
+    let r = read(&mut bytes);
     if !r.there {
-        return Ok(false);
+        return false;
     }
-    answer(out, r.kind, &bytes[..r.size])
+    let n = r.size;
+    answer(r.kind, &bytes[..n])
 }
 
 // The turns are counted, for nothing says that the input ends.
-fn main(rt: HostRuntime) -> io::Result<()> {
-    let mut from = rt.reader();
-    let mut out = io::writer(&rt);
-    for _ in 0..u64::MAX {
-        if !record(&mut from, &mut out)? {
-            break;
-        }
+fn main() {
+    let mut turns = u64::MAX;
+    while turns > 0 && record() {
+        turns -= 1;
     }
-    out.flush()
 }

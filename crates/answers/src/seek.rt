@@ -11,10 +11,10 @@ fn flip(b: u8) -> u8 {
 // The first 20 bytes of an id, the last bit flipped.
 fn flipped(id: &[u8]) -> [u8; 20] {
     let mut x = [0u8; 20];
-    for i in 0..20 {
-        if i < id.len() {
-            x[i] = id[i];
-        }
+    let mut i = 0;
+    while i < 20 && i < id.len() {
+        x[i] = id[i];
+        i += 1;
     }
     x[19] = flip(x[19]);
     x
@@ -47,13 +47,15 @@ fn apart(s: &[u8], f: File, i: u32) -> bool {
 // The first position whose id is not found so, or N.
 pub fn seek(s: &[u8], f: File) -> u32 {
     let n = f.commits;
-    for i in 0..n {
+    let mut i = 0;
+    while i < n {
         if !found(s, f, i) {
             return i;
         }
         if !apart(s, f, i) {
             return i;
         }
+        i += 1;
     }
     n
 }

@@ -4,10 +4,12 @@
 
 ghost use Rattle.std.specs.Prelude.{◌≡◌, length};
 
-use cases::record::fill;
 use report::report;
-use std::io;
-use std::io::Write;
+
+// The descriptors of standard input and output.
+const STDIN: i32 = 0;
+
+const STDOUT: i32 = 1;
 
 // Zeros for the largest input that can be read, 4 + 12,288 + 49,152 bytes, and one byte more. Nothing behind it changes the answer.
 fn room() -> [u8; 61445]
@@ -16,10 +18,10 @@ fn room() -> [u8; 61445]
     [0; 61445]
 }
 
-fn main(rt: HostRuntime) -> io::Result<()> {
+fn main() {
     let mut input = room();
-    let n = fill(&mut rt.reader(), &mut input)?;
-    let mut out = [0u8; 4096];
+    let n = io::read_full(STDIN, &mut input);
+    let mut out = io::buffer();
     let size = report(&input[..n], &mut out);
-    io::writer(&rt).write_all(&out[..size])
+    io::write_all(STDOUT, &out[..size]);
 }

@@ -15,8 +15,7 @@ mod whole;
 use cases::record::{read, room};
 use listed::lists;
 use show::{found, positions};
-use std::io;
-use std::io::{Read, Write};
+use step::steps;
 use words::big::be32;
 use words::part::part;
 
@@ -35,47 +34,38 @@ fn rest<'a>(s: &'a [u8]) -> &'a [u8] {
 }
 
 // Answers a question on a chain. Says whether its kind is known.
-fn ask<W: Write>(
-    out: &mut W,
-    kind: u8,
-    chain: &[u8],
-    list: &[u8],
-    asked: &[u8],
-) -> io::Result<bool> {
+fn ask(kind: u8, chain: &[u8], list: &[u8], asked: &[u8]) -> bool {
     match kind {
-        b'w' => whole::whole(out, chain, list)?,
-        b's' => step::steps(out, chain, list, asked)?,
-        b'l' => lists(out, chain, list, asked)?,
-        b'f' => found(out, chain, list, asked)?,
-        b'p' => positions(out, chain, list, asked)?,
-        _ => return Ok(false),
+        b'w' => whole::whole(chain, list),
+        b's' => steps(chain, list, asked),
+        b'l' => lists(chain, list, asked),
+        b'f' => found(chain, list, asked),
+        b'p' => positions(chain, list, asked),
+        _ => return false,
     }
-    Ok(true)
+    true
 }
 
-fn answer<W: Write>(out: &mut W, kind: u8, s: &[u8]) -> io::Result<bool> {
+fn answer(kind: u8, s: &[u8]) -> bool {
     let more = rest(s);
-    ask(out, kind, rest(more), lead(s), lead(more))
+    ask(kind, rest(more), lead(s), lead(more))
 }
 
 // Reads one record and answers it. Says whether there may be more.
-fn record<R: Read, W: Write>(from: &mut R, out: &mut W) -> io::Result<bool> {
+fn record() -> bool {
     let mut bytes = room();
-    let r = read(from, &mut bytes)?;
+    let r = read(&mut bytes);
     if !r.there {
-        return Ok(false);
+        return false;
     }
-    answer(out, r.kind, &bytes[..r.size])
+    let n = r.size;
+    answer(r.kind, &bytes[..n])
 }
 
 // The turns are counted, for nothing says that the input ends.
-fn main(rt: HostRuntime) -> io::Result<()> {
-    let mut from = rt.reader();
-    let mut out = io::writer(&rt);
-    for _ in 0..u64::MAX {
-        if !record(&mut from, &mut out)? {
-            break;
-        }
+fn main() {
+    let mut turns = u64::MAX;
+    while turns > 0 && record() {
+        turns -= 1;
     }
-    out.flush()
 }

@@ -5,117 +5,114 @@ use ask::positions::{commit_at, id_at, tree_at, which};
 use commit::{Asked, Commit, ParentEdge};
 use graph::locate::{Located, Spot, locate};
 use prints::print::{hex, number, print, refusal};
-use std::io;
-use std::io::Write;
 use types::graph::Position;
 use words::big::be32;
 
 // Prints the file of a position: its index, where it starts, its size, the position there and the file's commits.
-fn spot<W: Write>(out: &mut W, s: Spot) -> io::Result<()> {
+fn spot(s: Spot) {
     let at = s.pos;
     let f = s.inner;
-    print(out, b" file")?;
-    number(out, s.file as u64)?;
-    number(out, s.start as u64)?;
-    number(out, s.size as u64)?;
-    number(out, at.0 as u64)?;
-    number(out, f.commits as u64)
+    print(b" file");
+    number(s.file as u64);
+    number(s.start as u64);
+    number(s.size as u64);
+    number(at.0 as u64);
+    number(f.commits as u64);
 }
 
-fn located<W: Write>(out: &mut W, a: Located) -> io::Result<()> {
+fn located(a: Located) {
     match a {
-        Located::At(s) => spot(out, s),
+        Located::At(s) => spot(s),
         Located::Refused(r) => {
-            print(out, b" ")?;
-            refusal(out, r)
+            print(b" ");
+            refusal(r);
         }
     }
 }
 
-fn asking<W: Write>(out: &mut W, a: Asking) -> io::Result<()> {
+fn asking(a: Asking) {
     match a {
-        Asking::Fine => print(out, b" fine"),
+        Asking::Fine => print(b" fine"),
         Asking::Refused(r) => {
-            print(out, b" ")?;
-            refusal(out, r)
+            print(b" ");
+            refusal(r);
         }
     }
 }
 
 // Prints a part in digits, or that it is empty.
-fn bytes<W: Write>(out: &mut W, s: &[u8]) -> io::Result<()> {
+fn bytes(s: &[u8]) {
     if s.len() == 0 {
-        print(out, b" empty")
+        print(b" empty");
     } else {
-        print(out, b" ")?;
-        hex(out, s)
+        print(b" ");
+        hex(s);
     }
 }
 
-fn edge<W: Write>(out: &mut W, e: ParentEdge) -> io::Result<()> {
+fn edge(e: ParentEdge) {
     match e {
-        ParentEdge::None => print(out, b" none"),
+        ParentEdge::None => print(b" none"),
         ParentEdge::GraphPosition(p) => {
-            print(out, b" position")?;
-            number(out, p.0 as u64)
+            print(b" position");
+            number(p.0 as u64);
         }
         ParentEdge::ExtraEdgeIndex(k) => {
-            print(out, b" edge")?;
-            number(out, k as u64)
+            print(b" edge");
+            number(k as u64);
         }
     }
 }
 
-fn fields<W: Write>(out: &mut W, c: Commit) -> io::Result<()> {
+fn fields(c: Commit) {
     let first = c.first;
     let second = c.second;
-    number(out, c.generation as u64)?;
-    number(out, c.time)?;
-    edge(out, first)?;
-    edge(out, second)
+    number(c.generation as u64);
+    number(c.time);
+    edge(first);
+    edge(second);
 }
 
-fn asked<W: Write>(out: &mut W, a: Asked) -> io::Result<()> {
+fn asked(a: Asked) {
     match a {
-        Asked::Commit(c) => fields(out, c),
+        Asked::Commit(c) => fields(c),
         Asked::Refused(r) => {
-            print(out, b" ")?;
-            refusal(out, r)
+            print(b" ");
+            refusal(r);
         }
     }
 }
 
 // Prints the line of a lookup.
-pub fn found<W: Write>(out: &mut W, chain: &[u8], list: &[u8], id: &[u8]) -> io::Result<()> {
+pub fn found(chain: &[u8], list: &[u8], id: &[u8]) {
     match find(chain, list, id) {
         Found::At(p) => {
-            print(out, b"at")?;
-            number(out, p.0 as u64)?;
+            print(b"at");
+            number(p.0 as u64);
         }
-        Found::Absent => print(out, b"absent")?,
-        Found::Refused(r) => refusal(out, r)?,
+        Found::Absent => print(b"absent"),
+        Found::Refused(r) => refusal(r),
     }
-    print(out, b"\n")
+    print(b"\n");
 }
 
 // Prints what the questions by position answer: where it stands, which refusal, the id, the tree, the commit.
-pub fn position<W: Write>(out: &mut W, chain: &[u8], list: &[u8], pos: Position) -> io::Result<()> {
-    print(out, b"position")?;
-    number(out, pos.0 as u64)?;
-    located(out, locate(chain, list, pos))?;
-    asking(out, which(chain, list, pos))?;
-    bytes(out, id_at(chain, list, pos))?;
-    bytes(out, tree_at(chain, list, pos))?;
-    asked(out, commit_at(chain, list, pos))
+pub fn position(chain: &[u8], list: &[u8], pos: Position) {
+    print(b"position");
+    number(pos.0 as u64);
+    located(locate(chain, list, pos));
+    asking(which(chain, list, pos));
+    bytes(id_at(chain, list, pos));
+    bytes(tree_at(chain, list, pos));
+    asked(commit_at(chain, list, pos));
 }
 
 // Prints a line for each position that is asked, 4 bytes each.
-pub fn positions<W: Write>(out: &mut W, chain: &[u8], list: &[u8], asked: &[u8]) -> io::Result<()> {
+pub fn positions(chain: &[u8], list: &[u8], asked: &[u8]) {
     let mut at = 0;
     while 4 <= asked.len() - at {
-        position(out, chain, list, Position(be32(asked, at)))?;
-        print(out, b"\n")?;
+        position(chain, list, Position(be32(asked, at)));
+        print(b"\n");
         at += 4;
     }
-    Ok(())
 }

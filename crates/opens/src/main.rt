@@ -7,76 +7,73 @@ use cases::record::{read, room};
 use file::init::open;
 use file::{File, Opening};
 use prints::print::{hex, number, print, refusal};
-use std::io;
-use std::io::{Read, Write};
 use types::refusal::Refusal;
 
-fn print_file<W: Write>(out: &mut W, f: File) -> io::Result<()> {
-    print(out, b"open")?;
-    number(out, f.commits as u64)?;
-    number(out, f.bases as u64)?;
-    print(out, b"\n")
+fn print_file(f: File) {
+    print(b"open");
+    number(f.commits as u64);
+    number(f.bases as u64);
+    print(b"\n");
 }
 
-fn print_refusal<W: Write>(out: &mut W, r: Refusal) -> io::Result<()> {
-    refusal(out, r)?;
-    print(out, b"\n")
+fn print_refusal(r: Refusal) {
+    refusal(r);
+    print(b"\n");
 }
 
-fn answer_file<W: Write>(out: &mut W, s: &[u8]) -> io::Result<()> {
-    match open(s) {
-        Opening::Open(f) => print_file(out, f),
-        Opening::Refused(r) => print_refusal(out, r),
+fn answer_file(s: &[u8]) {
+    let o = open(s);
+    match o {
+        Opening::Open(f) => print_file(f),
+        Opening::Refused(r) => print_refusal(r),
     }
 }
 
 // Opens what each length from 0 on leaves of a file.
-fn answer_prefixes<W: Write>(out: &mut W, s: &[u8]) -> io::Result<()> {
-    for n in 0..s.len() {
-        answer_file(out, &s[..n])?;
+fn answer_prefixes(s: &[u8]) {
+    let mut n = 0;
+    while n <= s.len() {
+        answer_file(&s[..n]);
+        n += 1;
     }
-    answer_file(out, s)
 }
 
-fn answer_name<W: Write>(out: &mut W, s: &[u8]) -> io::Result<()> {
+fn answer_name(s: &[u8]) {
     let n = name::read(s);
-    print(out, b"name")?;
-    number(out, n.kind as u64)?;
-    print(out, b" ")?;
+    print(b"name");
+    number(n.kind as u64);
+    print(b" ");
     let hash = n.hash;
-    hex(out, &hash)?;
-    print(out, b"\n")
+    hex(&hash);
+    print(b"\n");
 }
 
 // Answers one record. Says whether its kind is known.
-fn answer<W: Write>(out: &mut W, kind: u8, s: &[u8]) -> io::Result<bool> {
+fn answer(kind: u8, s: &[u8]) -> bool {
     match kind {
-        b'f' => answer_file(out, s)?,
-        b'c' => answer_prefixes(out, s)?,
-        b'n' => answer_name(out, s)?,
-        _ => return Ok(false),
+        b'f' => answer_file(s),
+        b'c' => answer_prefixes(s),
+        b'n' => answer_name(s),
+        _ => return false,
     }
-    Ok(true)
+    true
 }
 
 // Reads one record and answers it. Says whether there may be more.
-fn record<R: Read, W: Write>(from: &mut R, out: &mut W) -> io::Result<bool> {
+fn record() -> bool {
     let mut bytes = room();
-    let r = read(from, &mut bytes)?;
+    let r = read(&mut bytes);
     if !r.there {
-        return Ok(false);
+        return false;
     }
-    answer(out, r.kind, &bytes[..r.size])
+    let n = r.size;
+    answer(r.kind, &bytes[..n])
 }
 
 // The turns are counted, for nothing says that the input ends.
-fn main(rt: HostRuntime) -> io::Result<()> {
-    let mut from = rt.reader();
-    let mut out = io::writer(&rt);
-    for _ in 0..u64::MAX {
-        if !record(&mut from, &mut out)? {
-            break;
-        }
+fn main() {
+    let mut turns = u64::MAX;
+    while turns > 0 && record() {
+        turns -= 1;
     }
-    out.flush()
 }

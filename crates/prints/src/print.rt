@@ -1,28 +1,34 @@
-// Words of a line: bytes as they are, numbers, bytes in digits, refusals. Each is written to `out`; where a write fails, that error is handed back,
-// and the front of the word may have been written.
-use std::io;
-use std::io::Write;
+// Words of a line: bytes as they are, numbers, bytes in digits, refusals.
 use types::refusal::Refusal;
 
-pub fn print<W: Write>(out: &mut W, s: &[u8]) -> io::Result<()> {
-    out.write_all(s)
+// The descriptor of standard output.
+const STDOUT: i32 = 1;
+
+pub fn print(s: &[u8]) {
+    io::write_all(STDOUT, s);
 }
 
-pub fn number<W: Write>(out: &mut W, n: u64) -> io::Result<()> {
-    write!(out, " {n}")
+pub fn number(n: u64) {
+    print(b" ");
+    io::print_decimal(STDOUT, n);
+}
+
+fn wide(x: u8) -> u64 {
+    x as u64
 }
 
 // Prints bytes as two digits each.
-pub fn hex<W: Write>(out: &mut W, s: &[u8]) -> io::Result<()> {
-    for x in s {
-        write!(out, "{x:02x}")?;
+pub fn hex(s: &[u8]) {
+    let mut i = 0;
+    while i < s.len() {
+        io::print_hex(STDOUT, wide(s[i]), 2);
+        i += 1;
     }
-    Ok(())
 }
 
-pub fn refusal<W: Write>(out: &mut W, r: Refusal) -> io::Result<()> {
-    print(out, b"refused")?;
-    number(out, r.number as u64)?;
-    number(out, r.file as u64)?;
-    number(out, r.place)
+pub fn refusal(r: Refusal) {
+    print(b"refused");
+    number(r.number as u64);
+    number(r.file as u64);
+    number(r.place);
 }

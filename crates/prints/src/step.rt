@@ -1,29 +1,27 @@
 // Words of a parent step: what it answers, and the phase of a walk.
 use super::print::{number, print, refusal};
 use parents::Answer;
-use std::io;
-use std::io::Write;
 use steps::Phase;
 
-pub fn phase<W: Write>(out: &mut W, p: Phase) -> io::Result<()> {
+pub fn phase(p: Phase) {
     match p {
-        Phase::First => print(out, b" first"),
-        Phase::Second => print(out, b" second"),
+        Phase::First => print(b" first"),
+        Phase::Second => print(b" second"),
         Phase::Edge(k) => {
-            print(out, b" edge")?;
-            number(out, k as u64)
+            print(b" edge");
+            number(k as u64);
         }
-        Phase::Exhausted => print(out, b" exhausted"),
+        Phase::Exhausted => print(b" exhausted"),
     }
 }
 
-pub fn answer<W: Write>(out: &mut W, a: Answer) -> io::Result<()> {
+pub fn answer(a: Answer) {
     match a {
         Answer::Parent(p) => {
-            print(out, b"parent")?;
-            number(out, p.position.0 as u64)
+            print(b"parent");
+            number(p.position.0 as u64);
         }
-        Answer::Refused(r) => refusal(out, r),
-        Answer::End => print(out, b"end"),
+        Answer::Refused(r) => refusal(r),
+        Answer::End => print(b"end"),
     }
 }

@@ -9,47 +9,43 @@ mod single;
 use cases::record::{read, room};
 use prints::print::print;
 use report::report;
-use std::io;
-use std::io::{Read, Write};
+use single::single;
 
 // Prints what the program says for one input.
-fn answer<W: Write>(out: &mut W, input: &[u8]) -> io::Result<()> {
-    let mut text = [0u8; 4096];
-    let size = report(input, &mut text);
-    print(out, &text[..size])
+fn answer(input: &[u8]) {
+    let mut out = io::buffer();
+    let size = report(input, &mut out);
+    print(&out[..size]);
 }
 
 // Answers one record. Says whether its kind is known.
-fn ask<W: Write>(out: &mut W, kind: u8, input: &[u8]) -> io::Result<bool> {
+fn ask(kind: u8, input: &[u8]) -> bool {
     match kind {
-        b'v' => answer(out, input)?,
+        b'v' => answer(input),
         b't' => {
-            answer(out, input)?;
-            single::single(out, input)?;
+            answer(input);
+            single(input);
         }
-        _ => return Ok(false),
+        _ => return false,
     }
-    Ok(true)
+    true
 }
 
 // Reads one record and answers it. Says whether there may be more.
-fn record<R: Read, W: Write>(from: &mut R, out: &mut W) -> io::Result<bool> {
+fn record() -> bool {
     let mut bytes = room();
-    let r = read(from, &mut bytes)?;
+    let r = read(&mut bytes);
     if !r.there {
-        return Ok(false);
+        return false;
     }
-    ask(out, r.kind, &bytes[..r.size])
+    let n = r.size;
+    ask(r.kind, &bytes[..n])
 }
 
 // The turns are counted, for nothing says that the input ends.
-fn main(rt: HostRuntime) -> io::Result<()> {
-    let mut from = rt.reader();
-    let mut out = io::writer(&rt);
-    for _ in 0..u64::MAX {
-        if !record(&mut from, &mut out)? {
-            break;
-        }
+fn main() {
+    let mut turns = u64::MAX;
+    while turns > 0 && record() {
+        turns -= 1;
     }
-    out.flush()
 }

@@ -6,8 +6,9 @@ ghost use Rattle.std.specs.Prelude.{◌≡◌, min};
 
 use digest::sha1;
 use hasher::Hasher;
-use std::io;
-use std::io::Write;
+
+// The descriptor of standard output.
+const STDOUT: i32 = 1;
 
 // The hexadecimal digit of x modulo 16.
 fn digit(x: u8) -> u8 {
@@ -16,14 +17,16 @@ fn digit(x: u8) -> u8 {
 }
 
 // Prints a digest as 40 digits, and ends the line.
-fn print<W: Write>(out: &mut W, d: [u8; 20]) -> io::Result<()> {
+fn print(d: [u8; 20]) {
     let mut line = [b'\n'; 41];
-    for i in 0..20 {
+    let mut i = 0;
+    while i < 20 {
         let x = d[i];
         line[2 * i] = digit(x / 16);
         line[2 * i + 1] = digit(x);
+        i += 1;
     }
-    out.write_all(&line)
+    io::write_all(STDOUT, &line);
 }
 
 fn least(a: usize, b: usize) -> usize
@@ -51,46 +54,42 @@ fn million() -> [u8; 20] {
 // The pattern: byte i is 7 i + 3 modulo 256.
 fn pattern() -> [u8; 200] {
     let mut p = [0u8; 200];
-    for i in 0..200 {
+    let mut i = 0;
+    while i < 200 {
         p[i] = ((i * 7 + 3) % 256) as u8;
+        i += 1;
     }
     p
 }
 
 // Every length of the pattern, whole.
-fn whole<W: Write>(out: &mut W, p: [u8; 200]) -> io::Result<()> {
-    for n in 0..201 {
-        print(out, sha1(&p[..n]))?;
+fn whole(p: [u8; 200]) {
+    let mut n = 0;
+    while n <= 200 {
+        print(sha1(&p[..n]));
+        n += 1;
     }
-    Ok(())
 }
 
 // Every length of the pattern, in two pieces, the first a third of it.
-fn split<W: Write>(out: &mut W, p: [u8; 200]) -> io::Result<()> {
-    for n in 0..201 {
+fn split(p: [u8; 200]) {
+    let mut n = 0;
+    while n <= 200 {
         let k = n / 3;
-        print(out, Hasher::new().update(&p[..k]).update(&p[k..n]).finish())?;
+        print(Hasher::new().update(&p[..k]).update(&p[k..n]).finish());
+        n += 1;
     }
-    Ok(())
 }
 
-fn main(rt: HostRuntime) -> io::Result<()> {
-    let mut out = io::writer(&rt);
-    print(&mut out, sha1(b""))?;
-    print(&mut out, sha1(b"abc"))?;
-    print(
-        &mut out,
-        sha1(b"abcdbcdecdefdefgefghfghighijhijkijkljklmklmnlmnomnopnopq"),
-    )?;
-    print(
-        &mut out,
-        sha1(
-            b"abcdefghbcdefghicdefghijdefghijkefghijklfghijklmghijklmnhijklmnoijklmnopjklmnopqklmnopqrlmnopqrsmnopqrstnopqrstu",
-        ),
-    )?;
-    print(&mut out, million())?;
+fn main() {
+    print(sha1(b""));
+    print(sha1(b"abc"));
+    print(sha1(b"abcdbcdecdefdefgefghfghighijhijkijkljklmklmnlmnomnopnopq"));
+    print(sha1(
+        b"abcdefghbcdefghicdefghijdefghijkefghijklfghijklmghijklmnhijklmnoijklmnopjklmnopqklmnopqrlmnopqrsmnopqrstnopqrstu",
+    ));
+    print(million());
     let p = pattern();
-    whole(&mut out, p)?;
-    split(&mut out, p)?;
-    out.flush()
+    whole(p);
+    split(p);
 }

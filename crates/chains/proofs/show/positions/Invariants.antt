@@ -1,10 +1,11 @@
 -- `chains::show::positions` meets its contract.
 -- The invariant: `at` lies in `asked`. The measure: the bytes behind it, of which a turn takes the 4 that its test found.
-use Rattle.std.proofs.Common.{length, ◌-◌, ◌≤◌}
+use Prim.Native.Nat.{◌≤◌, ◌-◌}
+use lib.ListN.{length}
 use Rattle.chains.proofs.show.positions.Given as goal
 
 abbrev pub invariant-loop-at : goal.invariant-loop-at
-invariant-loop-at g l = l.at ≤ length l.asked
+invariant-loop-at l = l.at ≤ length l.asked
 
 abbrev pub decreases-loop-at : goal.decreases-loop-at
-decreases-loop-at g l = length l.asked - l.at
+decreases-loop-at l = length l.asked - l.at
