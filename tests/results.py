@@ -12,7 +12,12 @@ EXCEPTIONS = Path("docs/EXCEPTIONS.md")
 HEAD = "-- Any two results that a public function's promise allows on the same arguments are equal. Made by tests/results.py.\n"
 RESERVED = {"open": "«open»"}
 # a promise of another form than those below: the crate's own file of this name has the lemma
-BY_HAND = {("walk", "next_parent"): "Steps"}
+BY_HAND = {
+    ("fit", "of"): "Same",
+    ("fit", "asked"): "Same",
+    ("fit", "edge"): "Same",
+    ("walk", "next_parent"): "Steps",
+}
 
 
 def sources(crate):
@@ -90,7 +95,7 @@ def lemmas(name, whole):
             held = re.match(r"(\w+)\.new ≡ ", fact)
             if "determined" in [x[0] for x in out] and not held:
                 continue
-            if part and re.match(r"(RecordsOf|AskedPart|IdPart|TreePart) ", fact):
+            if part and re.match(r"(PartOf|RecordsOf|AskedPart|IdPart|TreePart) ", fact):
                 out.append(("determined", "DeterminedPart {}", f"same_part {p} {q}"))
             elif fact.startswith("Answers ") and fact.split()[2] == "result":
                 out.append(("determined", "Determined {}", f"same {p}.is {q}.is"))
@@ -138,7 +143,7 @@ def page(crate):
         return None, missing
     words = "".join(body)
     names = [x for x in ("same", "same_part", "Determined", "DeterminedPart", "DeterminedHeld") if re.search(rf"(?<![\w-]){x}(?![\w-])", words)]
-    first = "use mathlib.Core.Path.{refl}\n" if " = refl\n" in words else ""
+    first = "use Rattle.std.proofs.Common.{refl}\n" if " = refl\n" in words else ""
     first += f"use Rattle.words.proofs.Determined.{{{', '.join(names)}}}\n" if names else ""
     return HEAD + first + "".join(uses) + words, missing
 

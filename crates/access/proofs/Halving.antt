@@ -1,23 +1,16 @@
 -- Laws of search by halving: one for each way, an induction, and what it finds. Nothing later sees how many turns it may take.
-use Prim.Native.Nat.{ℕ, zero, suc, ◌+◌, ◌-◌, ◌*◌, ◌/◌, ◌≤◌, ◌<◌}
-use mathlib.Core.List.{List}
-use mathlib.Core.Path.{◌≡◌, refl, ap, ◌∙◌}
-use mathlib.Core.Logic.{⊎_elim}
-use native.Mathlib.Omega.{arith}
-use native.Mathlib.Nat.{le_refl}
-use borrow.Author.Tests.{le-leb, lt-leb}
+use Rattle.std.proofs.Common.{ℕ, zero, suc, ◌+◌, ◌-◌, ◌*◌, ◌/◌, ◌≤◌, ◌<◌, List, ◌≡◌, refl, sym, ap, ◌∙◌, ⊎_elim, arith, le_refl, le-leb, Err}
+use borrow.Author.Tests.{lt-leb}
 use Rattle.words.specs.First.{◌if◌else◌}
 use Rattle.types.specs.declared.refusal.Refusal.{Refusal}
 use Rattle.types.specs.declared.file.Position.{Position}
 use Rattle.words.specs.Big.{be}
-use Rattle.order.specs.Order.{order}
 use Rattle.words.proofs.Numbers.{le_or_lt, by_order}
-use Rattle.order.proofs.Ordered.{order_less, order_equal, order_greater, told}
-use Rattle.order.specs.declared.Order.{Order}
-use Rattle.order.specs.declared.Order.TheVariants.{Less, Equal, Greater}
-use Rattle.access.specs.Lookup.{found, turn, mid, turns, halving, lower}
-use Rattle.access.specs.declared.Found.{Found}
-use Rattle.access.specs.declared.Found.TheVariants.{Absent, Refused}
+use Rattle.std.specs.declared.cmp.Ordering.{Ordering}
+use Rattle.std.specs.declared.cmp.Ordering.TheVariants.{Less, Equal, Greater}
+use Rattle.std.specs.Ordering.{nat_cmp}
+use Rattle.std.specs.Cmp.{nat_cmp_is, ranked}
+use Rattle.access.specs.Lookup.{Found, found, absent, turn, mid, turns, halving, lower}
 
 pub found_same : (m i : ℕ) → found m ≡ found i → m ≡ i
 found_same m i e = let z : ◌≡◌ {A = Position} (record { 0 = m }) (record { 0 = i }) = cc in ap (λ (p : Position). p.0) z
@@ -39,7 +32,7 @@ module _ (key : ℕ → ℕ) (x : ℕ) where
   -- one turn
   opens : (lo hi : ℕ) → lo < hi
       → halving key x lo hi
-      ≡ turn (order x (key (mid lo hi))) (halving key x lo (mid lo hi)) (found (mid lo hi)) (halving key x (mid lo hi + 1) hi)
+      ≡ turn (nat_cmp x (key (mid lo hi))) (halving key x lo (mid lo hi)) (found (mid lo hi)) (halving key x (mid lo hi + 1) hi)
   unfolding halving turns ◌if◌else◌
   opens lo hi h =
       let n : hi - lo ≡ suc (hi - lo - 1) = omega arith in
@@ -50,7 +43,7 @@ module _ (key : ℕ → ℕ) (x : ℕ) where
         enough (hi - lo - 1) (hi - (mid lo hi + 1)) (mid lo hi + 1) hi (omega arith) (omega arith),
       )
 
-  pub halving_none : {lo hi : ℕ} → hi ≤ lo → halving key x lo hi ≡ Absent
+  pub halving_none : {lo hi : ℕ} → hi ≤ lo → halving key x lo hi ≡ absent
   unfolding halving turns
   halving_none {lo} {hi} h = let n : hi - lo ≡ 0 = omega arith in rw n
 
@@ -58,19 +51,19 @@ module _ (key : ℕ → ℕ) (x : ℕ) where
   module _ {lo hi m : ℕ} (h : lo < hi) (e : m ≡ mid lo hi) where
     pub halving_less : x < key m → halving key x lo hi ≡ halving key x lo m
     unfolding turn
-    halving_less g = rw e (opens lo hi h ∙ rw (order_less x (key (mid lo hi)) (rw e at g)))
+    halving_less g = rw e (opens lo hi h ∙ rw (← nat_cmp_is x (key (mid lo hi)) Less (rw e at g)))
 
     pub halving_equal : x ≡ key m → halving key x lo hi ≡ found m
     unfolding turn
-    halving_equal g = rw e (opens lo hi h ∙ rw (order_equal (rw e at g)))
+    halving_equal g = rw e (opens lo hi h ∙ rw (← nat_cmp_is x (key (mid lo hi)) Equal (rw e at g)))
 
     pub halving_greater : key m < x → halving key x lo hi ≡ halving key x (m + 1) hi
     unfolding turn
-    halving_greater g = rw e (opens lo hi h ∙ rw (order_greater x (key (mid lo hi)) (rw e at g)))
+    halving_greater g = rw e (opens lo hi h ∙ rw (← nat_cmp_is x (key (mid lo hi)) Greater (rw e at g)))
 
   -- what holds of each turn holds of the whole
   module _ (P : ℕ → ℕ → Found → Type 0)
-      (none : (lo hi : ℕ) → hi ≤ lo → P lo hi Absent)
+      (none : (lo hi : ℕ) → hi ≤ lo → P lo hi absent)
       (less : (lo hi m : ℕ) (r : Found) → lo ≤ m → m < hi → x < key m → P lo m r → P lo hi r)
       (equal : (lo hi m : ℕ) → lo ≤ m → m < hi → x ≡ key m → P lo hi (found m))
       (greater : (lo hi m : ℕ) (r : Found) → lo ≤ m → m < hi → key m < x → P (m + 1) hi r → P lo hi r) where
@@ -94,20 +87,20 @@ module _ (key : ℕ → ℕ) (x : ℕ) where
   halving_sound lo hi =
       halving_ind
       (λ lo hi r. (i : ℕ) → r ≡ found i → (lo ≤ i) × (i < hi) × (x ≡ key i))
-      (λ lo hi h i e. let z : ◌≡◌ {A = ℕ} 0 1 = cc in absurd (omega arith))
+      (λ lo hi h i e. cc)
       (λ lo hi m r a b k ih i e. let q = ih i e in (q.0, omega arith, q.2))
       (λ lo hi m a b k i e. let z : m ≡ i = found_same m i e in (omega arith, omega arith, rw (← z) k))
       (λ lo hi m r a b k ih i e. let q = ih i e in (omega arith, q.1, q.2))
       lo hi
 
   -- it never refuses
-  pub halving_answers : (lo hi : ℕ) (q : Refusal) → halving key x lo hi ≡ Refused q → ⊥
+  pub halving_answers : (lo hi : ℕ) (q : Refusal) → halving key x lo hi ≡ Err q → ⊥
   halving_answers lo hi =
       halving_ind
-      (λ lo hi r. (q : Refusal) → r ≡ Refused q → ⊥)
-      (λ lo hi h q e. let z : ◌≡◌ {A = ℕ} 0 1 = cc in omega arith)
+      (λ lo hi r. (q : Refusal) → r ≡ Err q → ⊥)
+      (λ lo hi h q e. cc)
       (λ lo hi m r a b k ih q e. ih q e)
-      (λ lo hi m a b k q e. let z : ◌≡◌ {A = ℕ} 0 1 = cc in omega arith)
+      (λ lo hi m a b k q e. cc)
       (λ lo hi m r a b k ih q e. ih q e)
       lo hi
 
@@ -138,19 +131,21 @@ module _ (key : ℕ → ℕ) (x : ℕ) where
         lo hi
 
 -- a turn of the loop: what is left answers as the whole does; r is how x stands to the middle
-module _ (key : ℕ → ℕ) (x : ℕ) {lo hi m : ℕ} {all : Found} {r : Order} (e : all ≡ halving key x lo hi) (h : lo < hi)
-    (d : m ≡ lo + (hi - lo) / 2) (o : r ≡ order x (key m)) where
+module _ (key : ℕ → ℕ) (x : ℕ) {lo hi m : ℕ} {all : Found} {r : Ordering} (e : all ≡ halving key x lo hi) (h : lo < hi)
+    (d : m ≡ lo + (hi - lo) / 2) (o : r ≡ nat_cmp x (key m)) where
   middle : m ≡ mid lo hi
   middle = omega arith
 
   pub turn_less : r ≡ Less → all ≡ halving key x lo m
-  turn_less t = e ∙ halving_less key x h middle (told _ _ o t)
+  turn_less t = e ∙ halving_less key x h middle (ranked _ _ Less (sym t ∙ o))
 
   pub turn_equal : r ≡ Equal → all ≡ found m
-  turn_equal t = e ∙ halving_equal key x h middle (told _ _ o t)
+  turn_equal t = e ∙ halving_equal key x h middle (ranked _ _ Equal (sym t ∙ o))
 
   pub turn_greater : r ≡ Greater → all ≡ halving key x (m + 1) hi
-  turn_greater t = e ∙ halving_greater key x h middle (told _ _ o t)
+  turn_greater t = e ∙ halving_greater key x h middle (ranked _ _ Greater (sym t ∙ o))
+
+pub ruleset halves = (halving_none, turn_less, turn_equal, turn_greater)
 
 -- the fan entry before, of the first bucket and of another
 pub lower_zero : (p : List ℕ) {b : ℕ} → b ≡ 0 → 0 ≡ lower p b

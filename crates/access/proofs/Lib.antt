@@ -1,5 +1,4 @@
 pub mod Halving
-pub mod Asks
 pub mod Looks
 pub mod Stores
 pub mod Saying

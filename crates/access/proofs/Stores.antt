@@ -1,15 +1,7 @@
 -- A lookup in an opened file finds exactly what the file stores.
-use Prim.Native.Nat.{ℕ, zero, suc, ◌+◌, ◌-◌, ◌*◌, ◌≤◌, ◌<◌}
-use mathlib.Core.List.{List}
-use mathlib.Core.Bool.{Bool, true, false}
-use mathlib.Core.Logic.{⊎_elim, inl, inr}
-use mathlib.Core.Path.{◌≡◌, refl, sym, ap, ◌∙◌}
-use native.Mathlib.Omega.{arith}
-use native.Mathlib.Nat.{zero-add, add-zero}
-use lib.ListN.{length, get_or, take, drop}
-use lib.Seq.{get_or-take, get_or-drop, ext_get_or}
-use lib.Dec.{eqb}
-use borrow.Author.Tests.{eqb-true, eqb-false}
+use Rattle.std.proofs.Common.{ℕ, zero, suc, ◌+◌, ◌-◌, ◌*◌, ◌≤◌, ◌<◌, List, Bool, true, false, ⊎_elim, inl, inr, ◌≡◌, refl, sym, ap, ◌∙◌, arith}
+use Rattle.std.proofs.Common.{zero-add, add-zero, length, get_or, take, drop, get_or-take, get_or-drop, ext_get_or, eqb, eqb-true, Ok, Err}
+use borrow.Author.Tests.{eqb-false}
 use Rattle.words.specs.Big.{be, number, Bytes}
 use Rattle.words.proofs.Numbers.{bytes_part}
 use Rattle.order.proofs.Ordered.{same_bytes, same_number}
@@ -17,11 +9,9 @@ use Rattle.words.proofs.Parts.{length_part}
 use Rattle.file.specs.Table.{opening}
 use Rattle.fit.specs.Fits.{fan_part, ids_part}
 use Rattle.fit.specs.Facts.{Opened, Rises}
-use Rattle.access.specs.Lookup.{found, halving, key_of, upper, lower, lookup_of, stored, leading, Ordered, Answers, Finds, Right}
+use Rattle.std.specs.Prelude.{Some, None}
+use Rattle.access.specs.Lookup.{Found, found, halving, key_of, upper, lower, lookup_of, stored, leading, Ordered, Answers, Finds, Right}
 use Rattle.file.specs.declared.File.{File}
-use Rattle.file.specs.declared.Opening.TheVariants.{Open}
-use Rattle.access.specs.declared.Found.{Found}
-use Rattle.access.specs.declared.Found.TheVariants.{At, Absent, Refused}
 use Rattle.fit.proofs.Opens.{opened, rising}
 use Rattle.fit.proofs.Fitting.{opened_fits, run_within}
 use Rattle.access.proofs.Halving.{halving_sound, halving_answers, halving_whole}
@@ -70,16 +60,16 @@ module _ {l : List ℕ} {f : File} (o : Opened l f) (u : Rises l f) where
         ≡ lookup_of l f x
     plain e =
         ap (λ (w : ℕ). halving (key_of w (ids_part l f)) (number x) (lower (fan_part l f) (get_or x 0 0)) (upper (fan_part l f) (get_or x 0 0)))
-        (sym e) ∙ look_search l f x (sym (opened_fits o)) (omega arith) e refl (upper_le (get_or x 0 0) (bx 0)) refl
+        (sym e) ∙ look_search l f x (opened_fits o) e (upper_le (get_or x 0 0) (bx 0))
 
     -- so it never refuses an id of the file's width
     pub answers_in : length x ≡ f.width → Answers (lookup_of l f x)
     answers_in w = go (lookup_of l f x) refl
       where
         go : (r : Found) → lookup_of l f x ≡ r → Answers r
-        go (At p) e = inl (p.0, refl)
-        go Absent e = inr refl
-        go (Refused q) e = absurd (halving_answers _ (number x) _ _ q (plain w ∙ e))
+        go (Ok (Some p)) e = inl (p.0, refl)
+        go (Ok None) e = inr refl
+        go (Err q) e = absurd (halving_answers _ (number x) _ _ q (plain w ∙ e))
 
   module _ (x : List ℕ) (bl : Bytes l) (bx : Bytes x) where
     bi : Bytes (ids_part l f)
@@ -99,8 +89,7 @@ module _ {l : List ℕ} {f : File} (o : Opened l f) (u : Rises l f) where
         go : (t : Bool) → eqb (length x) f.width ≡ t → (i : ℕ) → lookup_of l f x ≡ found i → (i < f.commits) × (stored l f i ≡ x)
         go true t i e = sound_same (eqb-true (length x) f.width t) i e
         go false t i e =
-            let w = look_width l f x (sym (opened_fits o)) (omega arith) (eqb-false (length x) f.width t) in
-            let z : ◌≡◌ {A = ℕ} 0 1 = cc in absurd (omega arith)
+            let w = look_width l f x (opened_fits o) (eqb-false (length x) f.width t) in cc
 
     module _ (d : Ordered l f) where
       far : (k i : ℕ) → i + 1 + k < f.commits → key_of f.width (ids_part l f) i < key_of f.width (ids_part l f) (i + 1 + k)
@@ -139,7 +128,7 @@ module _ {l : List ℕ} {f : File} (o : Opened l f) (u : Rises l f) where
           record {
             sound = sound;
             whole = whole;
-            absent = λ e i h g. (let s = whole i h g in let z : ◌≡◌ {A = ℕ} 0 1 = cc in absurd (omega arith));
+            absent = λ e i h g. (let s = whole i h g in cc);
             none = λ h. ⊎_elim (λ a. (let s = sound a.0 a.1 in absurd (h a.0 s.0 s.1))) (λ e. e) (answers_in x bx w);
           }
 
@@ -149,7 +138,7 @@ unfolding stored
 stored_bytes l f i bl = bytes_part (ids_part l f) (i * f.width) f.width (bytes_part l f.oidl (f.commits * f.width) bl)
 
 -- an opened file never refuses an id of its width
-pub answers : (l : List ℕ) {f : File} (x : List ℕ) → opening l ≡ Open f → Bytes x → length x ≡ f.width → Answers (lookup_of l f x)
+pub answers : (l : List ℕ) {f : File} (x : List ℕ) → opening l ≡ Ok f → Bytes x → length x ≡ f.width → Answers (lookup_of l f x)
 answers l {f} x o bx w = answers_in (opened true l o) (rising l o) x bx w
 
 -- a result that is the definition's has the definition's theorem

@@ -1,30 +1,31 @@
 -- Lookup in one file: the crate's fan bounds and halving, as a function on any bytes; and the ids that a file stores.
-use Rattle.std.specs.Prelude.{ℕ, zero, suc, ◌+◌, ◌-◌, ◌*◌, ◌/◌, ◌≤◌, ◌<◌, List, not, ◌≡◌, ◌⊎◌, length, get_or, take, drop, ltb, leb, eqb}
+use Rattle.std.specs.Prelude.{ℕ, zero, suc, ◌+◌, ◌-◌, ◌*◌, ◌/◌, ◌≤◌, ◌<◌, List, not, ◌≡◌, ◌⊎◌, length, get_or, take, drop, ltb, leb, eqb, Option}
+use Rattle.std.specs.Prelude.{Some, None, Result, Ok, Err}
 use Rattle.types.specs.Refusals.{refusal}
+use Rattle.types.specs.declared.refusal.Reason.{Reason}
+use Rattle.types.specs.declared.refusal.Refusal.{Refusal}
+use Rattle.types.specs.declared.file.Position.{Position}
 use Rattle.words.specs.Big.{be, number}
-use Rattle.words.specs.First.{◌if◌else◌, refuse}
-use Rattle.order.specs.Order.{order}
-use Rattle.order.specs.declared.Order.{Order}
-use Rattle.order.specs.declared.Order.TheVariants.{Less, Equal, Greater}
+use Rattle.words.specs.First.{◌if◌else◌, fine, refuse}
+use Rattle.std.specs.declared.cmp.Ordering.{Ordering}
+use Rattle.std.specs.declared.cmp.Ordering.TheVariants.{Less, Equal, Greater}
+use Rattle.std.specs.Ordering.{nat_cmp}
 use Rattle.fit.specs.Fits.{fit_rule, fan_part, ids_part}
 use Rattle.file.specs.Table.{opening}
 use Rattle.file.specs.declared.File.{File}
-use Rattle.file.specs.declared.Opening.TheVariants.{Open}
-use Rattle.access.specs.declared.Asking.{Asking}
-use Rattle.access.specs.declared.Asking.TheVariants.{Fine, Refused as Met}
-use Rattle.access.specs.declared.Found.{Found}
-use Rattle.access.specs.declared.Found.TheVariants.{At, Absent, Refused}
 
--- which refusal a question for a part met; 0 is none
-unfoldable pub asking : ℕ → Asking
-asking zero = Fine
-asking (suc n) = Met (refusal (suc n) 0)
+-- an answer of a lookup: the position that stores the id, or none, or a refusal
+abbrev pub Found : Type 0
+Found = Result (Option Position) Refusal
 
 abbrev pub found : ℕ → Found
-found n = At (record { 0 = n })
+found n = Ok (Some (record { 0 = n }))
+
+abbrev pub absent : Found
+absent = Ok None
 
 -- search by halving, on any numbers: at most k turns
-unfoldable pub turn : Order → Found → Found → Found → Found
+unfoldable pub turn : Ordering → Found → Found → Found → Found
 turn Less a b c = a
 turn Equal a b c = b
 turn Greater a b c = c
@@ -33,10 +34,10 @@ abbrev pub mid : ℕ → ℕ → ℕ
 mid lo hi = (lo + hi) / 2
 
 unfoldable pub turns : (ℕ → ℕ) → ℕ → ℕ → ℕ → ℕ → Found
-turns key x zero lo hi = Absent
+turns key x zero lo hi = absent
 turns key x (suc k) lo hi =
-    Absent if leb hi lo else
-    turn (order x (key (mid lo hi)))
+    absent if leb hi lo else
+    turn (nat_cmp x (key (mid lo hi)))
     (turns key x k lo (mid lo hi))
     (found (mid lo hi))
     (turns key x k (mid lo hi + 1) hi)
@@ -57,15 +58,15 @@ unfoldable pub lower : List ℕ → ℕ → ℕ
 lower p zero = 0
 lower p (suc b) = upper p b
 
-abbrev pub not_found : ℕ → Found
-not_found n = Refused (refusal n 0)
+abbrev pub not_found : Reason → Found
+not_found e = Err (refusal e 0)
 
 -- the record fits, then the id's width, then the fan's bounds lie among the ids
 unfoldable pub lookup_of : List ℕ → File → List ℕ → Found
 lookup_of l f x =
     refuse (fit_rule l f) not_found
-    (refuse (41 if not (eqb (length x) f.width) else 0) not_found
-    (refuse (40 if ltb f.commits (upper (fan_part l f) (get_or x 0 0)) else 0) not_found
+    (refuse (Err Reason.IdWidth if not (eqb (length x) f.width) else fine) not_found
+    (refuse (Err Reason.Position if ltb f.commits (upper (fan_part l f) (get_or x 0 0)) else fine) not_found
     (halving (key_of f.width (ids_part l f)) (number x) (lower (fan_part l f) (get_or x 0 0)) (upper (fan_part l f) (get_or x 0 0)))))
 
 -- ── what a lookup is for ──
@@ -85,15 +86,15 @@ pub record Ordered (l : List ℕ) (f : File) : Type 0 where
 
 -- r says where an id is, or that it is not there: it is no refusal
 abbrev pub Answers : Found → Type 0
-Answers r = ((i : ℕ) × (r ≡ found i)) ⊎ (r ≡ Absent)
+Answers r = ((i : ℕ) × (r ≡ found i)) ⊎ (r ≡ absent)
 
 -- r is what a lookup of x should answer: it finds x exactly if the file stores it, at the position that stores it
 pub record Finds (l : List ℕ) (f : File) (x : List ℕ) (r : Found) : Type 0 where
   pub sound : (i : ℕ) → r ≡ found i → (i < f.commits) × (stored l f i ≡ x)
   pub whole : (i : ℕ) → i < f.commits → stored l f i ≡ x → r ≡ found i
-  pub absent : r ≡ Absent → (i : ℕ) → i < f.commits → stored l f i ≡ x → ⊥
-  pub none : ((i : ℕ) → i < f.commits → stored l f i ≡ x → ⊥) → r ≡ Absent
+  pub absent : r ≡ Ok None → (i : ℕ) → i < f.commits → stored l f i ≡ x → ⊥
+  pub none : ((i : ℕ) → i < f.commits → stored l f i ≡ x → ⊥) → r ≡ Ok None
 
 -- of a file that opens and whose ids are in order, asked for an id of its width
 unfoldable pub Right : List ℕ → File → List ℕ → Found → Type 0
-Right l f x r = opening l ≡ Open f → Ordered l f → length x ≡ f.width → Finds l f x r
+Right l f x r = opening l ≡ Ok f → Ordered l f → length x ≡ f.width → Finds l f x r

@@ -1,16 +1,14 @@
--- What each case of `Asking` and of `Found` says: a position, 0 for none.
-use Rattle.std.specs.Prelude.{[], ◌∷◌}
+-- What an answer for a part and that of a lookup say: a position, 0 for none.
+use Rattle.std.specs.Prelude.{[], ◌∷◌, Some, None, Result, Ok, Err, ⊤}
 use Rattle.types.specs.Said.{Said, says, refuses}
-use Rattle.access.specs.declared.Asking.{Asking}
-use Rattle.access.specs.declared.Asking.TheVariants.{Fine, Refused as Met}
-use Rattle.access.specs.declared.Found.{Found}
-use Rattle.access.specs.declared.Found.TheVariants.{At, Absent, Refused}
+use Rattle.types.specs.declared.refusal.Refusal.{Refusal}
+use Rattle.access.specs.Lookup.{Found}
 
-unfoldable pub asking_said : Asking → Said
-asking_said Fine = says 0 []
-asking_said (Met r) = refuses r
+unfoldable pub asking_said : Result ⊤ Refusal → Said
+asking_said (Ok u) = says 0 []
+asking_said (Err r) = refuses r
 
 unfoldable pub found_said : Found → Said
-found_said (At p) = says 1 (p.0 ∷ [])
-found_said Absent = says 0 []
-found_said (Refused r) = refuses r
+found_said (Ok (Some p)) = says 1 (p.0 ∷ [])
+found_said (Ok None) = says 0 []
+found_said (Err r) = refuses r

@@ -1,124 +1,81 @@
 // Ids of one file: at a position, of its bases, and the position of an id.
 #![tactic(auto)]
 
-ghost use Rattle.std.specs.Prelude.{◌≡◌, ◌+◌, ◌*◌, ◌<◌, length};
+ghost use Rattle.std.specs.Prelude.{◌≡◌, ◌+◌, ◌*◌, ◌<◌, length, Ok};
 ghost use Rattle.access.specs.Said.{asking_said, found_said};
 ghost use Rattle.types.specs.Said.{Answers};
-ghost use Rattle.types.specs.Refusals.{refusal};
+ghost use Rattle.types.specs.Refusals.{refused_at};
 ghost use Rattle.words.specs.Big.{number};
-ghost use Rattle.words.specs.Part.{PartOf};
-ghost use Rattle.fit.specs.Fits.{ask_rule, AskedPart, Fitted};
-ghost use Rattle.access.specs.Lookup.{asking, key_of, lower, halving, lookup_of, Right};
+ghost use Rattle.fit.specs.Fits.{ask_rule, AskedPart};
+ghost use Rattle.access.specs.Lookup.{key_of, lower, halving, lookup_of, Right};
 
 use file::File;
-use fit::{ask, fit};
-use order::{Order, compare};
+use fit::ask;
+use fit::parts::Fit;
+use order::compare;
+use std::cmp::Ordering;
 use types::file::Position;
 use types::refusal;
-use types::refusal::{ID_WIDTH, POSITION, Refusal};
+use types::refusal::{Reason, Refusal};
 use words::big::be32;
-use words::part::part;
-
-// Which refusal a question for a part met.
-#[derive(Clone, Copy)]
-pub enum Asking {
-    Fine,
-    Refused(Refusal),
-}
-
-#[derive(Clone, Copy)]
-pub enum Found {
-    At(Position),
-    Absent,
-    Refused(Refusal),
-}
-
-// The OIDF and OIDL chunks' own parts, and the part of the base ids.
-fn oidf<'a>(s: &'a [u8], f: File) -> &'a [u8]
-    requires { Fitted s.now f }
-    ensures { PartOf s.entry f.oidf 1024 result }
-{
-    part(s, f.oidf, 256, 4)
-}
-
-fn oidl<'a>(s: &'a [u8], f: File) -> &'a [u8]
-    requires { Fitted s.now f }
-    ensures { PartOf s.entry f.oidl (f.commits * f.width) result }
-{
-    part(s, f.oidl, f.commits as usize, f.width)
-}
-
-fn base<'a>(s: &'a [u8], f: File) -> &'a [u8]
-    requires { Fitted s.now f }
-    ensures { PartOf s.entry f.base (f.bases * f.width) result }
-{
-    part(s, f.base, f.bases as usize, f.width)
-}
 
 // The id of a commit: the part of `s` that stores it, itself and no copy. Empty where `which` refuses.
+#[tactic(auto, using(fit::proofs::Fitting::no_error, fit::proofs::Fitting::answered, fit::proofs::Fitting::run_within))]
 pub fn id_at<'a>(s: &'a [u8], f: File, pos: Position) -> &'a [u8]
     ensures { AskedPart s.entry (ask_rule s.now f f.commits pos.0) (f.oidl + pos.0 * f.width) f.width result }
 {
-    if 0 < ask(s, f, f.commits, pos.0) {
-        return &s[0..0];
+    if ask(s, f, f.commits, pos.0).is_err() {
+        return &s[..0];
     }
-    part(oidl(s, f), (pos.0 as usize) * f.width, f.width, 1)
+    let id = f.oidl + (pos.0 as usize) * f.width;
+    &s[id..id + f.width]
 }
 
 // The id of base `j`, likewise. Empty where `which_base` refuses.
+#[tactic(auto, using(fit::proofs::Fitting::no_error, fit::proofs::Fitting::answered, fit::proofs::Fitting::run_within))]
 pub fn base_at<'a>(s: &'a [u8], f: File, j: u32) -> &'a [u8]
     ensures { AskedPart s.entry (ask_rule s.now f f.bases j) (f.base + j * f.width) f.width result }
 {
-    if 0 < ask(s, f, f.bases as u32, j) {
-        return &s[0..0];
+    if ask(s, f, f.bases as u32, j).is_err() {
+        return &s[..0];
     }
-    part(base(s, f), (j as usize) * f.width, f.width, 1)
-}
-
-fn asked(m: u32) -> Asking
-    ensures { result ≡ asking m }
-{
-    if 0 < m {
-        return Asking::Refused(refusal::at(m, 0));
-    }
-    Asking::Fine
+    let base = f.base + (j as usize) * f.width;
+    &s[base..base + f.width]
 }
 
 // Which refusal the id of a commit meets.
-pub fn which(s: &[u8], f: File, pos: Position) -> Asking
-    ensures { Answers asking_said result (asking (ask_rule s.now f f.commits pos.0)) }
+pub fn which(s: &[u8], f: File, pos: Position) -> Result<(), Refusal>
+    ensures { Answers asking_said result (refused_at (ask_rule s.now f f.commits pos.0) 0) }
 {
-    asked(ask(s, f, f.commits, pos.0))
+    ask(s, f, f.commits, pos.0)?;
+    Ok(())
 }
 
 // Which refusal a base id meets.
-pub fn which_base(s: &[u8], f: File, j: u32) -> Asking
-    ensures { Answers asking_said result (asking (ask_rule s.now f f.bases j)) }
+pub fn which_base(s: &[u8], f: File, j: u32) -> Result<(), Refusal>
+    ensures { Answers asking_said result (refused_at (ask_rule s.now f f.bases j) 0) }
 {
-    asked(ask(s, f, f.bases as u32, j))
-}
-
-fn wide(x: u8) -> usize
-    ensures { (result ≡ x) × (result < 256) }
-{
-    x as usize
+    ask(s, f, f.bases as u32, j)?;
+    Ok(())
 }
 
 // The fan entry before `b`: the first position of its bucket.
-fn low(fan: &[u8], b: usize) -> u32
-    requires { b < 256 }
+#[tactic(auto, using(crate::proofs::Halving::lower_zero, crate::proofs::Halving::lower_is))]
+fn low(fan: &[u8], b: u8) -> u32
     ensures { result ≡ lower fan.now b }
 {
     if b == 0 {
         return 0;
     }
-    be32(fan, 4 * (b - 1))
+    be32(fan, 4 * ((b as usize) - 1))
 }
 
-// The position of `x` among the ids from `from` up to `to`, by halving.
-fn halve(ids: &[u8], x: &[u8], from: u32, to: u32) -> Found
+// The position of `x` among the ids from `from` up to `to`, by halving. By hand: the ids are bytes and no slice of items, and `halving` promises its
+// turns on unsorted ids too, of which `binary_search_by` says nothing.
+#[tactic(auto, using(crate::proofs::Halving::halves, types::proofs::Widths::small_product), unfolding(crate::specs::Lookup::key_of))]
+fn halve(ids: &[u8], x: &[u8], from: u32, to: u32) -> Option<Position>
     requires { length x.now < 1000 }
-    ensures { result ≡ halving (key_of (length x.now) ids.now) (number x.now) from to }
+    ensures { Ok result ≡ halving (key_of (length x.now) ids.now) (number x.now) from to }
 {
     let w = x.len();
     let mut lo = from;
@@ -126,43 +83,42 @@ fn halve(ids: &[u8], x: &[u8], from: u32, to: u32) -> Found
     while lo < hi {
         let m = lo + (hi - lo) / 2;
         match compare(x, ids, (m as usize) * w) {
-            Order::Less => {
+            Ordering::Less => {
                 hi = m;
             }
-            Order::Equal => {
-                return Found::At(Position(m));
+            Ordering::Equal => {
+                return Some(Position(m));
             }
-            Order::Greater => {
+            Ordering::Greater => {
                 lo = m + 1;
             }
         }
     }
-    Found::Absent
+    None
 }
 
-fn refused(number: u32) -> Found
-    ensures { result ≡ Found.Refused (refusal number 0) }
+// The fan's bounds and halving, on unsorted ids too.
+#[tactic(auto, using(crate::proofs::Looks::looks))]
+fn search(s: &[u8], f: File, x: &[u8]) -> Result<Option<Position>, Refusal>
+    ensures { result ≡ lookup_of s.now f x.now }
 {
-    Found::Refused(refusal::at(number, 0))
+    let fit = Fit::of(s, f)?;
+    if x.len() != f.width {
+        return Err(refusal::at(Reason::IdWidth, 0));
+    }
+    let fan = fit.fan();
+    let b = x[0];
+    let to = be32(fan, 4 * (b as usize));
+    if f.commits < to {
+        return Err(refusal::at(Reason::Position, 0));
+    }
+    Ok(halve(fit.ids(), x, low(fan, b), to))
 }
 
-// The position of the id `x`: the fan's bounds and halving, on unsorted ids too.
-pub fn lookup(s: &[u8], f: File, x: &[u8]) -> Found
+// The position of the id `x`.
+pub fn lookup(s: &[u8], f: File, x: &[u8]) -> Result<Option<Position>, Refusal>
     ensures is { Answers found_said result (lookup_of s.now f x.now) }
     ensures right { Right s.now f x.now result }
 {
-    let m = fit(s, f);
-    if 0 < m {
-        return refused(m);
-    }
-    if x.len() != f.width {
-        return refused(ID_WIDTH);
-    }
-    let fan = oidf(s, f);
-    let b = wide(x[0]);
-    let to = be32(fan, 4 * b);
-    if f.commits < to {
-        return refused(POSITION);
-    }
-    halve(oidl(s, f), x, low(fan, b), to)
+    search(s, f, x)
 }

@@ -1,15 +1,10 @@
 -- Laws of the statistics: one commit more, what each says of every commit, and that the counts add up.
-use Prim.Native.Nat.{ℕ, zero, suc, ◌+◌, ◌-◌, ◌≤◌, ◌<◌, min, max}
-use mathlib.Core.Path.{◌≡◌, refl, sym, ap, ◌∙◌, subst}
-use mathlib.Core.Logic.{◌⊎◌, inl, inr, ⊎_elim}
-use mathlib.Core.List.{List}
-use native.Mathlib.Omega.{arith}
-use native.Mathlib.Nat.{eq-or-lt_of_le, le_of_suc-le-suc}
+use Rattle.std.proofs.Common.{ℕ, zero, suc, ◌+◌, ◌-◌, ◌≤◌, ◌<◌, min, max, ◌≡◌, refl, sym, ap, ◌∙◌, subst, ◌⊎◌, inl, inr, ⊎_elim, List, arith}
+use Rattle.std.proofs.Common.{eq-or-lt_of_le, le_of_suc-le-suc, eqb, length, get_or, set, replicate, length-set, ext_get_or, get_or-set_same}
+use Rattle.std.proofs.Common.{get_or-set_other, le-leb, eq-eqb, ne_eqb}
 use native.Mathlib.Decide.{ℕ_discrete}
-use lib.Dec.{eqb}
-use lib.ListN.{length, get_or, set, replicate, length-set, get_or-replicate}
-use lib.Seq.{ext_get_or, get_or-set_same, get_or-set_other}
-use borrow.Author.Tests.{le-leb, lt-leb, eq-eqb, ne_eqb}
+use lib.ListN.{get_or-replicate}
+use borrow.Author.Tests.{lt-leb}
 use Rattle.words.specs.First.{◌if◌else◌}
 use Rattle.words.specs.Sums.{before}
 use Rattle.words.proofs.Numbers.{le_or_lt}

@@ -1,11 +1,8 @@
 -- The claims are not empty: a root, its child and a merge of both have length 2; a commit that is its own parent, at the cap, has none.
-use Prim.Native.Nat.{ℕ, zero, suc, ◌<◌}
-use mathlib.Core.Path.{◌≡◌, refl}
-use mathlib.Core.Logic.{⊎_elim}
+use Rattle.std.proofs.Common.{ℕ, zero, suc, ◌<◌, ◌≡◌, refl, ⊎_elim, List, [], ◌∷◌, arith}
 use mathlib.Core.List.Memᴰ
-use mathlib.Core.List.{List, [], ◌∷◌, Memᴰ}
+use mathlib.Core.List.{Memᴰ}
 use mathlib.Core.Option.{none, some}
-use native.Mathlib.Omega.{arith}
 use Rattle.ancestry.specs.Graph.{Numbered, Agrees, highest_in, highest_below, right_gen, cap, length_of}
 use Rattle.ancestry.proofs.Graph.{agrees}
 

@@ -1,12 +1,8 @@
 -- Demand 3: right generations give a length that agrees with the graph, and no other answer does.
-use Prim.Native.Nat.{ℕ, zero, suc, ◌+◌, ◌-◌, ◌≤◌, ◌<◌}
-use mathlib.Core.Path.{◌≡◌, refl, ap, sym, ◌∙◌, subst}
-use mathlib.Core.Logic.{◌⊎◌, inl, inr, ⊎_elim}
-use mathlib.Core.List.{List, [], ◌∷◌, Memᴰ}
+use Rattle.std.proofs.Common.{ℕ, zero, suc, ◌+◌, ◌-◌, ◌≤◌, ◌<◌, ◌≡◌, refl, ap, sym, ◌∙◌, subst, ◌⊎◌, inl, inr, ⊎_elim, List, [], ◌∷◌, arith}
+use Rattle.std.proofs.Common.{eq-zero-or-pos, eq-eqb, ne_eqb}
+use mathlib.Core.List.{Memᴰ}
 use mathlib.Core.Option.{Option, none, some, none-ne-some, some-ne-none, some-injective}
-use native.Mathlib.Omega.{arith}
-use native.Mathlib.Nat.{eq-zero-or-pos}
-use borrow.Author.Tests.{eq-eqb, ne_eqb}
 use Rattle.words.proofs.Numbers.{le_or_lt}
 use Rattle.ancestry.specs.Graph.{Run, stay, step, Ancestor, Acyclic, Cyclic, HasRun, NoLonger, highest_in, highest_below, cap, length_of, Numbered, Agrees}
 use Rattle.ancestry.proofs.Counts.{highest_above, highest_at, highest_top}

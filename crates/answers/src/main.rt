@@ -8,21 +8,22 @@ mod lines;
 mod seek;
 mod walk;
 
-use cases::record::{read, room};
+use cases::record::each;
 use cases::step::phase_of;
+use file::File;
 use file::init::open;
-use file::{File, Opening};
 use prints::print::{number, print, refusal};
 use types::file::Position;
 use words::big::{be32, be64};
 
-// Ends the line of a check: `first` is the first commit of `n` that it found bad, or `n`.
-fn print_checked(first: u32, n: u32) {
-    if first < n {
-        print(b" BAD");
-        number(first as u64);
-    } else {
-        print(b" OK");
+// Ends the line of a check, by the first commit that it found bad.
+fn print_checked(bad: Option<u32>) {
+    match bad {
+        Some(first) => {
+            print(b" BAD");
+            number(u64::from(first));
+        }
+        None => print(b" OK"),
     }
     print(b"\n");
 }
@@ -31,16 +32,15 @@ fn answer_file(s: &[u8], f: File) {
     let counted = lines::lines(s, f);
     let sought = seek::seek(s, f);
     print(b"lookup");
-    print_checked(sought, f.commits);
+    print_checked(sought);
     print(b"counts");
-    print_checked(counted, f.commits);
+    print_checked(counted);
 }
 
 fn answer_open(s: &[u8]) {
-    let o = open(s);
-    match o {
-        Opening::Open(f) => answer_file(s, f),
-        Opening::Refused(r) => {
+    match open(s) {
+        Ok(f) => answer_file(s, f),
+        Err(r) => {
             refusal(r);
             print(b"\n");
         }
@@ -54,10 +54,9 @@ fn answer_step(s: &[u8]) -> bool {
     let pos = Position(be32(s, 0));
     let phase = phase_of(s[4], be64(s, 5) as usize);
     let file = &s[13..];
-    let o = open(file);
-    match o {
-        Opening::Open(f) => walk::step(file, f, pos, phase),
-        Opening::Refused(r) => refusal(r),
+    match open(file) {
+        Ok(f) => walk::step(file, f, pos, phase),
+        Err(r) => refusal(r),
     }
     print(b"\n");
     true
@@ -73,21 +72,6 @@ fn answer(kind: u8, s: &[u8]) -> bool {
     true
 }
 
-// Reads one record and answers it. Says whether there may be more.
-fn record() -> bool {
-    let mut bytes = room();
-    let r = read(&mut bytes);
-    if !r.there {
-        return false;
-    }
-    let n = r.size;
-    answer(r.kind, &bytes[..n])
-}
-
-// The turns are counted, for nothing says that the input ends.
 fn main() {
-    let mut turns = u64::MAX;
-    while turns > 0 && record() {
-        turns -= 1;
-    }
+    each(answer);
 }

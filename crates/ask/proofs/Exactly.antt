@@ -1,13 +1,8 @@
 -- A lookup in a chain whose files are in order finds an id exactly if some file stores it, at its lowest position.
-use Prim.Native.Nat.{ℕ, zero, suc, ◌+◌, ◌-◌, ◌≤◌, ◌<◌}
-use mathlib.Core.List.{List}
-use mathlib.Core.Path.{◌≡◌, refl, sym, ap, ◌∙◌}
-use mathlib.Core.Logic.{⊎_elim}
-use native.Mathlib.Omega.{arith}
-use lib.ListN.{length}
-use borrow.Author.Tests.{le-ltb, eqb-true}
+use Rattle.std.proofs.Common.{ℕ, zero, suc, ◌+◌, ◌-◌, ◌≤◌, ◌<◌, List, ◌≡◌, refl, sym, ap, ◌∙◌, ⊎_elim, arith, length, eqb-true, Result, Ok, Err}
 use Rattle.types.specs.Width.{known}
-use Rattle.words.specs.First.{◌if◌else◌}
+use Rattle.types.specs.declared.refusal.Refusal.{Refusal}
+use Rattle.words.specs.First.{◌if◌else◌, refuse}
 use Rattle.types.specs.declared.graph.Position.{Position}
 use Rattle.words.specs.Big.{Bytes}
 use Rattle.words.specs.Sums.{before}
@@ -16,30 +11,28 @@ use Rattle.words.proofs.Numbers.{le_or_lt, bytes_part}
 use Rattle.words.proofs.Rows.{eq_not}
 use Rattle.list.specs.List.{records_of, length_at}
 use Rattle.file.specs.declared.File.{File}
-use Rattle.file.specs.declared.Opening.{Opening}
-use Rattle.file.specs.declared.Opening.TheVariants.{Open, Refused}
 use Rattle.fit.proofs.Opens.{rising}
-use Rattle.access.specs.Lookup.{found, stored, Finds, Right, lookup_of as lookupIn}
+use Rattle.access.specs.Lookup.{stored, Finds, Right, lookup_of as lookupIn}
 use Rattle.access.proofs.Halving.{found_same}
 use Rattle.access.proofs.Stores.{stored_long, stored_bytes, answers, both}
-use Rattle.graph.specs.Chain.{commits_of, start_at, part_at, open_at, count_at, first_at, commits_in, file_of, pos_of, opened}
-use Rattle.ask.specs.Lookups.{find_in, place, shift, find_at, look_from, lookup_of}
+use Rattle.graph.specs.Chain.{commits_of, start_at, part_at, open_at, count_at, first_at, commits_in, file_of, pos_of}
+use Rattle.ask.specs.Lookups.{Found, absent, find_in, place, shift, find_at, look_from, lookup_of}
 use Rattle.ask.specs.Theorems.{stored_in, id_of, Sorted, Exact, Right as Promised, Agrees}
-use Rattle.ask.specs.declared.lookup.Found.{Found}
-use Rattle.ask.specs.declared.lookup.Found.TheVariants.{Absent}
 use Rattle.graph.proofs.Passing.{file_opened, count_open}
 use Rattle.graph.proofs.Standing.{stands}
+use Rattle.graph.proofs.Views.{opened_list, opened_pass, list_listed}
+use Rattle.ask.proofs.Looking.{find_refused, find_width, find_seen}
 
 place_same : {r : Found} (m i : ℕ) → r ≡ place m → r ≡ place i → m ≡ i
 place_same m i d e = let z : ◌≡◌ {A = Position} (record { 0 = m }) (record { 0 = i }) = cc in ap (λ (p : Position). p.0) z
 
-place_some : {r : Found} (m : ℕ) → r ≡ place m → r ≡ Absent → ⊥
-place_some m d e = let z : ◌≡◌ {A = ℕ} 0 1 = cc in omega arith
+place_some : {r : Found} (m : ℕ) → r ≡ place m → r ≡ absent → ⊥
+place_some m d e = cc
 
 -- r is the lowest position of x among those from `from` up to `to`
 data Lowest (id : ℕ → List ℕ) (x : List ℕ) (from to : ℕ) (r : Found) : Type 0 where
   here : (h : ℕ) → r ≡ place h → from ≤ h → h < to → id h ≡ x → ((g : ℕ) → from ≤ g → g < h → id g ≡ x → ⊥) → Lowest id x from to r
-  nowhere : r ≡ Absent → ((g : ℕ) → from ≤ g → g < to → id g ≡ x → ⊥) → Lowest id x from to r
+  nowhere : r ≡ absent → ((g : ℕ) → from ≤ g → g < to → id g ≡ x → ⊥) → Lowest id x from to r
 
 -- what comes first has no x: so the lowest of the rest is the lowest of all
 later : {id : ℕ → List ℕ} {x : List ℕ} (from : ℕ) {mid to : ℕ} {r : Found} → from ≤ mid → ((g : ℕ) → from ≤ g → g < mid → id g ≡ x → ⊥)
@@ -75,7 +68,7 @@ module _ (z : ℕ) (c l : List ℕ) where
       }
 
   -- the id at place i of file k
-  id_at_lem : (k i : ℕ) → k < records_of z l → i < count_at z c l k → {f : File} → open_at z c l k ≡ Open f
+  id_at_lem : (k i : ℕ) → k < records_of z l → i < count_at z c l k → {f : File} → open_at z c l k ≡ Ok f
       → id_of z c l (first_at z c l k + i) ≡ stored (part_at z c l k) f i
   unfolding id_of stored_in
   id_at_lem k i b h e = rw ((stands z c l).file_back k i b h, (stands z c l).pos_back k i b h, e)
@@ -85,15 +78,15 @@ module _ (z : ℕ) (c l : List ℕ) where
   part_bytes bc k = bytes_part c (start_at z c l k) (length_at z l k) bc
 
   -- 41 asks for ids of 20 bytes, and those of each file have as many
-  wide : (k : ℕ) {f : File} → open_at z c l k ≡ Open f → f.width ≡ 20
+  wide : (k : ℕ) {f : File} → open_at z c l k ≡ Ok f → f.width ≡ 20
   unfolding known
   wide k {f} e = eqb-true f.width 20 (file_opened z c l k e).known
 
   module _ (s : Sorted z c l) (bc : Bytes c) where
     -- x has the width of the ids of each file
-    module _ (x : List ℕ) (bx : Bytes x) (w : (k : ℕ) (f : File) → open_at z c l k ≡ Open f → length x ≡ f.width) where
+    module _ (x : List ℕ) (bx : Bytes x) (w : (k : ℕ) (f : File) → open_at z c l k ≡ Ok f → length x ≡ f.width) where
       -- file k is open: what it finds, else what the files after it say
-      module _ (k : ℕ) (b : k < records_of z l) {f : File} (e : open_at z c l k ≡ Open f) where
+      module _ (k : ℕ) (b : k < records_of z l) {f : File} (e : open_at z c l k ≡ Ok f) where
         finds : Finds (part_at z c l k) f x (lookupIn (part_at z c l k) f x)
         unfolding open_at Right
         finds = (both (part_at z c l k) f x (part_bytes bc k) bx refl).1 e (s.ordered k b f e) (w k f e)
@@ -127,10 +120,10 @@ module _ (z : ℕ) (c l : List ℕ) where
       unfolding shift find_in count_at commits_of
       step k {to} {rest} b t r = go (open_at z c l k) refl
         where
-          go : (o : Opening) → open_at z c l k ≡ o
+          go : (o : Result File Refusal) → open_at z c l k ≡ o
               → Lowest (id_of z c l) x (first_at z c l k) to (shift (first_at z c l k) (find_in (part_at z c l k) o x) rest)
-          go (Open f) e = open_step k b e t r
-          go (Refused q) e =
+          go (Ok f) e = open_step k b e t r
+          go (Err q) e =
               let n : count_at z c l k ≡ 0 = rw e in
               later (first_at z c l k) (omega (arith, before_next (count_at z c l) k))
               (λ g y v q. omega (arith, before_next (count_at z c l) k)) r
@@ -143,13 +136,13 @@ module _ (z : ℕ) (c l : List ℕ) where
           (along left (k + 1) (omega arith))
 
     pub exact : (x : List ℕ) → Bytes x → length x ≡ 20 → Exact z c l x (lookup_of z c l x)
-    unfolding lookup_of ◌if◌else◌ before
+    unfolding lookup_of refuse ◌if◌else◌ before
     exact x bx w =
-        rw (le-ltb 0 (opened z c l).number (omega (arith, s.opens)), eq_not (length x) 20 w)
+        rw (s.opens, eq_not (length x) 20 w)
         (exact_of (along x bx (λ k f e. w ∙ sym (wide k e)) (records_of z l) 0 (omega arith)))
 
     -- the id at a position is an id
-    module _ (g : ℕ) (h : g < commits_in z c l) {f : File} (e : open_at z c l (file_of z c l g) ≡ Open f) (b : pos_of z c l g < f.commits) where
+    module _ (g : ℕ) (h : g < commits_in z c l) {f : File} (e : open_at z c l (file_of z c l g) ≡ Ok f) (b : pos_of z c l g < f.commits) where
       id_long : length (id_of z c l g) ≡ 20
       unfolding id_of stored_in open_at
       id_long =
@@ -172,3 +165,6 @@ module _ (z : ℕ) (c l : List ℕ) where
   pub promised : (x : List ℕ) → Bytes c → Bytes x → {r : Found} → r ≡ lookup_of z c l x → (r ≡ lookup_of z c l x) × Promised z c l x r
   unfolding Promised
   promised x bc bx e = (e, λ s w. rw e (exact s bc x bx w))
+
+-- how a lookup goes
+pub ruleset finding = (find_refused, find_width, find_seen, promised, opened_list, opened_pass, list_listed)

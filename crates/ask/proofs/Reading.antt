@@ -1,15 +1,10 @@
 -- The questions by position: each answers what the position's file does, where a question on it meets no refusal; and the id that is handed out.
-use Prim.Native.Nat.{ℕ, ◌+◌, ◌*◌, ◌≤◌, ◌<◌}
-use mathlib.Core.List.{List}
-use mathlib.Core.Bool.{true}
-use mathlib.Core.Path.{◌≡◌, sym, ap, ◌∙◌}
-use native.Mathlib.Omega.{arith}
-use lib.ListN.{length, take, drop, length-take}
-use lib.Seq.{drop-drop}
-use denote.Ref.{Bor}
-use borrow.Author.Tests.{lt-ltb, le-ltb, eq-eqb}
+use Rattle.std.proofs.Common.{ℕ, ◌+◌, ◌*◌, ◌≤◌, List, ◌≡◌, sym, ap, ◌∙◌, arith, length, take, drop, length-take, drop-drop, Bor, true, Result, Ok}
+use Rattle.std.proofs.Common.{Err}
+use Rattle.std.specs.Prelude.{⊤}
 use Rattle.types.specs.declared.refusal.Refusal.{Refusal}
-use Rattle.words.specs.First.{◌if◌else◌}
+use Rattle.words.specs.First.{◌if◌else◌, fine, refuse}
+use Rattle.words.proofs.Rows.{refuse_some}
 use Rattle.words.specs.Part.{PartOf, RecordsOf}
 use Rattle.words.proofs.Parts.{take_in, part_part, part_length}
 use Rattle.list.specs.List.{length_at}
@@ -17,59 +12,53 @@ use Rattle.fit.specs.Fits.{ask_rule, AskedPart}
 use Rattle.fit.specs.Facts.{Opened}
 use Rattle.file.specs.declared.File.{File}
 use Rattle.fit.proofs.Opens.{opened}
-use Rattle.fit.proofs.Fitting.{opened_fits, asked_plain, run_within, part_none}
+use Rattle.fit.proofs.Fitting.{opened_fits, asked_plain, run_within}
 use Rattle.access.specs.Lookup.{stored}
-use Rattle.access.specs.declared.Asking.TheVariants.{Fine, Refused as Met}
 use Rattle.commit.specs.Commits.{commit_at}
-use Rattle.commit.specs.declared.Asked.{Asked}
-use Rattle.commit.specs.declared.Asked.TheVariants.{Refused as Not}
+use Rattle.commit.specs.declared.Commit.{Commit}
 use Rattle.graph.specs.Chain.{width_in, start_at, part_at, open_at, file_of, pos_of, asked}
 use Rattle.graph.specs.Spots.{located}
-use Rattle.ask.specs.Questions.{asking_by, id_in, tree_in, IdPart, TreePart, commit_in, commit_of}
+use Rattle.ask.specs.Questions.{id_in, tree_in, IdPart, TreePart, commit_in, commit_of}
 use Rattle.ask.specs.Theorems.{stored_in, id_of, ReadsId}
 use Rattle.graph.specs.Theorems.{Spotted, FileOf}
-use Rattle.graph.specs.declared.locate.Located.TheVariants.{At, Refused as Nowhere}
 use Rattle.graph.specs.declared.locate.Spot.{Spot}
 use Rattle.graph.proofs.Standing.{stands, asked_below}
-use Rattle.graph.proofs.Spots.{spotted, unspotted, file_cut}
-use Rattle.graph.proofs.Views.{numbers}
+use Rattle.graph.proofs.Spots.{spotted, unspotted_as, file_cut}
 
 -- a part of a part, where the inner question met no refusal
-inner_part : {s p x : Bor (List ℕ)} {at n m : ℕ} (j w : ℕ) → PartOf s at n p → m ≡ 0 → j + w ≤ n → AskedPart p m j w x
+inner_part : {E : Type 0} {s p x : Bor (List ℕ)} {at n : ℕ} {m : Result ⊤ E} (j w : ℕ) → PartOf s at n p → m ≡ fine → j + w ≤ n → AskedPart p m j w x
     → PartOf s (at + j) w x
 unfolding ◌if◌else◌
-inner_part {s} {p} {x} {at} {m} j w q e h k =
-    let y : PartOf p j w x = rw (eq-eqb m 0 e) at k in
+inner_part {p} {x} j w q e h k =
+    let y : PartOf p j w x = rw e at k in
     part_part q y h
+
+-- a position that stands somewhere is not refused
+pub which_fine : (z : ℕ) (c l : List ℕ) (g : ℕ) {r : Spot} → located z c l g ≡ Ok r → asked z c l g ≡ fine
+which_fine z c l g e = (spotted z c l g e).asks
 
 module _ (z : ℕ) (c : Bor (List ℕ)) (l : List ℕ) (g : ℕ) where
   -- the position is refused, with q
-  module _ {q : Refusal} (e : located z c.now l g ≡ Nowhere q) where
-    met : (q ≡ asked z c.now l g) × (0 < q.number)
-    met = unspotted z c.now l g e
-
-    pub which_none : Met q ≡ asking_by (asked z c.now l g)
-    unfolding asking_by ◌if◌else◌
-    which_none = rw (lt-ltb 0 (asked z c.now l g).number (omega (arith, numbers met.0, met.1))) (ap Met met.0)
+  module _ {q : Refusal} (e : located z c.now l g ≡ Err q) where
+    met : asked z c.now l g ≡ Err q
+    met = unspotted_as z c.now l g e
 
     pub id_none : {x : Bor (List ℕ)} → PartOf c 0 0 x → IdPart z c l g x
-    id_none {x} p = part_none c x _ _ _ (numbers met.0) met.1 p
+    unfolding ◌if◌else◌
+    id_none p = rw met p
 
     pub tree_none : {x : Bor (List ℕ)} → PartOf c 0 0 x → TreePart z c l g x
-    tree_none {x} p = part_none c x _ _ _ (numbers met.0) met.1 p
+    unfolding ◌if◌else◌
+    tree_none p = rw met p
 
-    pub commit_none : Not q ≡ commit_of z c.now l g
-    unfolding commit_of ◌if◌else◌
-    commit_none = rw (lt-ltb 0 (asked z c.now l g).number (omega (arith, numbers met.0, met.1))) (ap Not met.0)
+    pub commit_none : Err q ≡ commit_of z c.now l g
+    unfolding commit_of
+    commit_none = refuse_some Err _ met
 
   -- it stands at r
-  module _ {r : Spot} (e : located z c.now l g ≡ At r) where
+  module _ {r : Spot} (e : located z c.now l g ≡ Ok r) where
     spot : Spotted z c.now l g r
     spot = spotted z c.now l g e
-
-    pub which_fine : Fine ≡ asking_by (asked z c.now l g)
-    unfolding asking_by ◌if◌else◌
-    which_fine = rw (le-ltb 0 (asked z c.now l g).number (omega (arith, spot.fine)))
 
     -- s is what was cut by it
     module _ {s : Bor (List ℕ)} (k : RecordsOf c r.start r.size 1 s) where
@@ -84,7 +73,7 @@ module _ (z : ℕ) (c : Bor (List ℕ)) (l : List ℕ) (g : ℕ) where
       long = part_length cut.place spot.room
 
       -- a question on the file's commit meets no refusal
-      plain : ask_rule s.now r.inner r.inner.commits r.pos.0 ≡ 0
+      plain : ask_rule s.now r.inner r.inner.commits r.pos.0 ≡ fine
       plain = asked_plain s.now r.inner r.inner.commits r.pos.0 (opened_fits whole) spot.high
 
       pub id_part_lem : {x : Bor (List ℕ)}
@@ -95,7 +84,7 @@ module _ (z : ℕ) (c : Bor (List ℕ)) (l : List ℕ) (g : ℕ) where
       id_part_lem p =
           let room : r.inner.oidl + r.pos.0 * r.inner.width + r.inner.width ≤ r.size =
           omega (arith, whole.fitted.ids, run_within r.pos.0 r.inner.commits r.inner.width spot.high, long) in
-          rw (eq-eqb _ 0 spot.fine, spot.file, spot.pos, spot.opens, spot.start) (inner_part _ _ cut.place plain room p)
+          rw (spot.asks, spot.file, spot.pos, spot.opens, spot.start) (inner_part _ _ cut.place plain room p)
 
       pub tree_part_lem : {x : Bor (List ℕ)}
           → AskedPart s (ask_rule s.now r.inner r.inner.commits r.pos.0) (r.inner.cdat + r.pos.0 * (r.inner.width + 16))
@@ -105,12 +94,14 @@ module _ (z : ℕ) (c : Bor (List ℕ)) (l : List ℕ) (g : ℕ) where
       tree_part_lem p =
           let room : r.inner.cdat + r.pos.0 * (r.inner.width + 16) + r.inner.width ≤ r.size =
           omega (arith, whole.fitted.rows, run_within r.pos.0 r.inner.commits (r.inner.width + 16) spot.high, long) in
-          rw (eq-eqb _ 0 spot.fine, spot.file, spot.pos, spot.opens, spot.start) (inner_part _ _ cut.place plain room p)
+          rw (spot.asks, spot.file, spot.pos, spot.opens, spot.start) (inner_part _ _ cut.place plain room p)
 
-      pub commit_part : {a : Asked} → a ≡ commit_at s.now r.inner r.pos.0 → a ≡ commit_of z c.now l g
-      unfolding commit_of ◌if◌else◌ commit_in
-      commit_part p =
-          p ∙ rw (le-ltb 0 (asked z c.now l g).number (omega (arith, spot.fine)), spot.file, spot.pos, spot.opens, cut.bytes)
+      pub commit_part : {a : Result Commit Refusal} → a ≡ commit_at s.now r.inner r.pos.0 → a ≡ commit_of z c.now l g
+      unfolding commit_of refuse commit_in
+      commit_part p = p ∙ rw (spot.asks, spot.file, spot.pos, spot.opens, cut.bytes)
+
+-- how a question by position goes
+pub ruleset asking = (unspotted_as, which_fine, commit_none, commit_part)
 
 -- a part of a part of a part: place j of the n bytes at `at` of a file, which has m bytes at a place of the chain
 inner : (c : List ℕ) (start m at n j w : ℕ) → j + w ≤ n → at + j + w ≤ m
@@ -128,7 +119,7 @@ reads_id z c l g r a p =
     let i : ℕ = pos_of z c.now l g in
     let o = (stands z c.now l).opens g (asked_below z c.now l g a) in
     let f : File = o.0 in
-    let q : PartOf c (start_at z c.now l k + (f.oidl + i * f.width)) f.width r = rw (o.1, eq-eqb _ 0 a) at p in
+    let q : PartOf c (start_at z c.now l k + (f.oidl + i * f.width)) f.width r = rw (o.1, a) at p in
     let y = (opened true (part_at z c.now l k) o.1).fitted.ids in
     let v : length (part_at z c.now l k) ≤ length_at z l k = simp length-take (omega arith) in
     rw o.1 (q.bytes

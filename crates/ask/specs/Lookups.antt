@@ -1,32 +1,35 @@
 -- Lookup in a chain: each file's own lookup in order; the oldest copy counts. 41 for an id that is not 20 bytes.
-use Rattle.std.specs.Prelude.{ℕ, zero, suc, ◌+◌, List, true, not, ◌≡◌, ltb, eqb, length}
-use Rattle.words.specs.First.{◌if◌else◌}
+use Rattle.std.specs.Prelude.{ℕ, zero, suc, ◌+◌, List, not, ◌≡◌, eqb, length, Result, Ok, Err, Option, Some, None, MatchResult}
+use Rattle.words.specs.First.{◌if◌else◌, fine, refuse}
 use Rattle.types.specs.Refusals.{refusal}
+use Rattle.types.specs.declared.refusal.Reason.TheVariants as Reason
+use Rattle.types.specs.declared.graph.Position.{Position}
 use Rattle.list.specs.List.{records_of}
-use Rattle.file.specs.declared.Opening.{Opening}
-use Rattle.file.specs.declared.Opening.TheVariants.{Open, Refused}
-use Rattle.access.specs.Lookup.{lookup_of as lookupIn}
-use Rattle.access.specs.declared.Found.{Found as FileFound}
-use Rattle.access.specs.declared.Found.TheVariants.{At as FileAt, Absent as FileAbsent, Refused as FileRefused}
+use Rattle.types.specs.declared.refusal.Refusal.{Refusal}
+use Rattle.file.specs.declared.File.{File}
+use Rattle.access.specs.Lookup.{lookup_of as lookupIn, Found as FileFound, absent as not_in_file}
 use Rattle.graph.specs.Chain.{part_at, open_at, first_at, open_from, opened}
-use Rattle.ask.specs.declared.lookup.Found.{Found}
-use Rattle.ask.specs.declared.lookup.Found.TheVariants.{At, Absent, Refused as Not}
-use Rattle.ask.specs.declared.lookup.Hit.{Hit}
-use Rattle.ask.specs.declared.lookup.Search.{Search}
 
 -- what file k finds; nothing where it does not open
-unfoldable pub find_in : List ℕ → Opening → List ℕ → FileFound
-find_in p (Open f) x = lookupIn p f x
-find_in p (Refused r) x = FileAbsent
+unfoldable pub find_in : List ℕ → Result File Refusal → List ℕ → FileFound
+find_in p (Ok f) x = lookupIn p f x
+find_in p (Err r) x = not_in_file
+
+-- an answer: the position that stores the id, or none, or a refusal
+abbrev pub Found : Type 0
+Found = Result (Option Position) Refusal
 
 abbrev pub place : ℕ → Found
-place g = At (record { 0 = g })
+place g = Ok (Some (record { 0 = g }))
+
+abbrev pub absent : Found
+absent = Ok None
 
 -- the answer of a file whose first position is base, else what the files after it say
 unfoldable pub shift : ℕ → FileFound → Found → Found
-shift base (FileAt p) rest = place (base + p.0)
-shift base FileAbsent rest = rest
-shift base (FileRefused r) rest = rest
+shift base (Ok (Some p)) rest = place (base + p.0)
+shift base (Ok None) rest = rest
+shift base (Err r) rest = rest
 
 module _ (z : ℕ) (c l x : List ℕ) where
   abbrev pub find_at : ℕ → FileFound
@@ -34,29 +37,30 @@ module _ (z : ℕ) (c l x : List ℕ) where
 
   -- the files from k on
   unfoldable pub look_from : ℕ → ℕ → Found
-  look_from k zero = Absent
+  look_from k zero = absent
   look_from k (suc left) = shift (first_at z c l k) (find_at k) (look_from (k + 1) left)
 
 unfoldable pub lookup_of : ℕ → List ℕ → List ℕ → List ℕ → Found
 lookup_of z c l x =
-    Not (opened z c l) if ltb 0 (opened z c l).number else
-    Not (refusal 41 0) if not (eqb (length x) 20) else
-    look_from z c l x 0 (records_of z l)
+    refuse (opened z c l) Err
+    (Err (refusal Reason.IdWidth 0) if not (eqb (length x) 20) else
+    look_from z c l x 0 (records_of z l))
 
 -- ── what the private pass gives ──
 
-unfoldable pub note_file : Hit → ℕ → FileFound → Hit
-note_file old sum (FileAt p) = record { seen = true; pos = sum + p.0 }
-note_file old sum FileAbsent = old
-note_file old sum (FileRefused r) = old
+unfoldable pub note_file : ℕ → FileFound → Option Position
+note_file sum (Ok (Some p)) = Some (record { 0 = sum + p.0 })
+note_file sum (Ok None) = None
+note_file sum (Err r) = None
 
-unfoldable pub noted_of : Hit → ℕ → FileFound → Hit
-noted_of old sum y = old if old.seen else note_file old sum y
+unfoldable pub noted_of : Option Position → ℕ → FileFound → Option Position
+noted_of (Some g) sum y = Some g
+noted_of None sum y = note_file sum y
 
--- what was seen, else what is still to come
-unfoldable pub hit_or : Hit → Found → Found
-hit_or h rest = place h.pos if h.seen else rest
+-- a pass over n files, which all open, and what was seen
+pub record Searched (z : ℕ) (c l : List ℕ) (n : ℕ) (x : List ℕ) (hit : Option Position) : Type 0 where
+  pub opens : open_from z c l 0 n ≡ fine
+  pub answer : look_from z c l x 0 n ≡ Ok hit
 
-pub record Looked (z : ℕ) (c l : List ℕ) (n : ℕ) (x : List ℕ) (r : Search) : Type 0 where
-  pub refusal : r.refusal ≡ open_from z c l 0 n
-  pub answer : r.refusal.number ≡ 0 → look_from z c l x 0 n ≡ hit_or r.hit Absent
+abbrev pub Looked : ℕ → List ℕ → List ℕ → ℕ → List ℕ → Found → Type 0
+Looked z c l n x r = MatchResult r (Searched z c l n x) (λ e. open_from z c l 0 n ≡ Err e)

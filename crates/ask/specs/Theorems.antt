@@ -1,33 +1,31 @@
 -- What the answers on a chain come to: the id at a position, and what a lookup finds.
-use Rattle.std.specs.Prelude.{ℕ, ◌≤◌, ◌<◌, List, [], ◌≡◌, length}
+use Rattle.std.specs.Prelude.{ℕ, ◌≤◌, ◌<◌, List, [], ◌≡◌, length, Result, Ok, Err, None}
 use Rattle.std.specs.Borrow.{Bor}
 use Rattle.list.specs.List.{records_of}
+use Rattle.types.specs.declared.refusal.Refusal.{Refusal}
 use Rattle.file.specs.declared.File.{File}
-use Rattle.file.specs.declared.Opening.{Opening}
-use Rattle.file.specs.declared.Opening.TheVariants.{Open, Refused}
 use Rattle.access.specs.Lookup.{stored, Ordered}
 use Rattle.graph.specs.Chain.{part_at, open_at, commits_in, file_of, pos_of, opened, asked}
-use Rattle.ask.specs.Lookups.{place, lookup_of}
+use Rattle.words.specs.First.{fine}
+use Rattle.ask.specs.Lookups.{Found, place, lookup_of}
 use Rattle.ask.specs.Questions.{IdPart}
-use Rattle.ask.specs.declared.lookup.Found.{Found}
-use Rattle.ask.specs.declared.lookup.Found.TheVariants.{Absent}
 
 -- the id at position g: what its file stores at its place there
-unfoldable pub stored_in : List ℕ → Opening → ℕ → List ℕ
-stored_in p (Open f) i = stored p f i
-stored_in p (Refused r) i = []
+unfoldable pub stored_in : List ℕ → Result File Refusal → ℕ → List ℕ
+stored_in p (Ok f) i = stored p f i
+stored_in p (Err r) i = []
 
 unfoldable pub id_of : ℕ → List ℕ → List ℕ → ℕ → List ℕ
 id_of z c l g = stored_in (part_at z c l (file_of z c l g)) (open_at z c l (file_of z c l g)) (pos_of z c l g)
 
 -- what `id_at` hands out at a position that is not refused is the id there
 abbrev pub ReadsId : ℕ → Bor (List ℕ) → List ℕ → ℕ → Bor (List ℕ) → Type 0
-ReadsId z c l g r = (asked z c.now l g).number ≡ 0 → IdPart z c l g r → r.now ≡ id_of z c.now l g
+ReadsId z c l g r = asked z c.now l g ≡ fine → IdPart z c l g r → r.now ≡ id_of z c.now l g
 
 -- a chain that opens, with the ids of each file in order
 pub record Sorted (z : ℕ) (c l : List ℕ) : Type 0 where
-  pub opens : (opened z c l).number ≡ 0
-  pub ordered : (k : ℕ) → k < records_of z l → (f : File) → open_at z c l k ≡ Open f → Ordered (part_at z c l k) f
+  pub opens : opened z c l ≡ fine
+  pub ordered : (k : ℕ) → k < records_of z l → (f : File) → open_at z c l k ≡ Ok f → Ordered (part_at z c l k) f
 
 -- r is what a lookup of x should answer: it finds x exactly if some file stores it, at the lowest position that does
 pub record Exact (z : ℕ) (c l x : List ℕ) (r : Found) : Type 0 where
@@ -35,8 +33,8 @@ pub record Exact (z : ℕ) (c l x : List ℕ) (r : Found) : Type 0 where
   pub sound : (h : ℕ) → r ≡ place h → id_of z c l h ≡ x
   pub lowest : (h : ℕ) → r ≡ place h → (g : ℕ) → g < h → id_of z c l g ≡ x → ⊥
   pub whole : (g : ℕ) → g < commits_in z c l → id_of z c l g ≡ x → (h : ℕ) × (r ≡ place h) × (h ≤ g)
-  pub absent : r ≡ Absent → (g : ℕ) → g < commits_in z c l → id_of z c l g ≡ x → ⊥
-  pub none : ((g : ℕ) → g < commits_in z c l → id_of z c l g ≡ x → ⊥) → r ≡ Absent
+  pub absent : r ≡ Ok None → (g : ℕ) → g < commits_in z c l → id_of z c l g ≡ x → ⊥
+  pub none : ((g : ℕ) → g < commits_in z c l → id_of z c l g ≡ x → ⊥) → r ≡ Ok None
 
 -- of a chain whose files are in order, asked for an id of 20 bytes
 unfoldable pub Right : ℕ → List ℕ → List ℕ → List ℕ → Found → Type 0

@@ -1,16 +1,12 @@
 -- The bases of a file, and the ways through refusals 60 to 63.
-use Prim.Native.Nat.{ℕ, zero, suc, ◌+◌, ◌-◌, ◌*◌, ◌≤◌, ◌<◌}
-use mathlib.Core.List.{List}
-use mathlib.Core.Bool.{Bool, true, false, not}
-use mathlib.Core.Path.{◌≡◌, refl, sym, ap, ◌∙◌}
-use native.Mathlib.Omega.{arith}
-use lib.Dec.{ltb, eqb}
-use lib.ListN.{length, get_or}
-use denote.Ref.{Bor}
-use borrow.Author.Tests.{lt-ltb, le-ltb, eqb-true, ne_eqb}
+use Rattle.std.proofs.Common.{ℕ, zero, suc, ◌+◌, ◌-◌, ◌*◌, ◌≤◌, ◌<◌, List, Bool, true, false, not, ◌≡◌, refl, sym, ap, ◌∙◌, arith, eqb, length, Bor}
+use Rattle.std.proofs.Common.{lt-ltb, le-ltb, eqb-true, Ok, Err}
 use Rattle.types.specs.Width.{known}
+use Rattle.types.specs.Refusals.{refusal, refused_at, number_in}
+use Rattle.types.specs.declared.refusal.Reason.{Reason}
+use Rattle.types.specs.declared.refusal.Refusal.{Refusal}
 use Rattle.words.specs.Big.{be, number}
-use Rattle.words.specs.First.{◌if◌else◌, first}
+use Rattle.words.specs.First.{◌if◌else◌, ◌or◌, fine, first}
 use Rattle.words.specs.Part.{RecordsOf}
 use Rattle.words.proofs.Adds.{before_next}
 use Rattle.words.proofs.Numbers.{be_part}
@@ -19,17 +15,16 @@ use Rattle.words.proofs.Rows.{eq_not, ne_not}
 use Rattle.list.specs.List.{records_of, length_at}
 use Rattle.fit.specs.Fits.{base_part}
 use Rattle.file.specs.declared.File.{File}
-use Rattle.file.specs.declared.Opening.TheVariants.{Open}
-use Rattle.audit.proofs.Tabling.{is_open, next_start}
+use Rattle.audit.proofs.Tabling.{is_open}
 use Rattle.types.proofs.Widths.{width_bounds}
-use Rattle.rules.specs.Rules.{◌or◌, sum_in, sum_rule, name_in, name_rule}
-use Rattle.rules.proofs.Entries.{or_hit, or_miss}
+use Rattle.rules.specs.Rules.{sum_in, sum_rule, name_in, name_rule}
 use Rattle.rules.proofs.Trailers.{sum_plain, name_plain}
 use Rattle.graph.specs.Chain.{width_in, start_at, part_at, open_at}
 use Rattle.graph.proofs.Passing.{part_long}
 use Rattle.audit.specs.Files.{bases_in, base_in, trailer_at}
 use Rattle.audit.specs.Rules.{alien, bad_base, base_rule, head_rule, head_place}
-use Rattle.audit.specs.Scans.{start_in, alien_by, Reach, Tabled, JudgedAs}
+use Rattle.audit.specs.declared.tables.Row.{Row}
+use Rattle.audit.specs.Scans.{start_in, alien_by, alien_rule, Reach, Tabled, JudgedAs}
 
 -- two searches whose tests agree
 first_same : (p q : ℕ → Bool) (i k : ℕ) → ((j : ℕ) → i ≤ j → j < i + k → p j ≡ q j) → first p i k ≡ first q i k
@@ -39,28 +34,28 @@ first_same p q i (suc k) h =
     rw (h i (omega arith) (omega arith), first_same p q (i + 1) k (λ j a b. h j (omega arith) (omega arith)))
 
 -- base j, which was cut out as r, beside the bytes before where the next file starts
-pub alien_by_lem : (s r : Bor (List ℕ)) (c t : List ℕ) (w j : ℕ) {x : Bool} → j * w + w ≤ length s.now → RecordsOf s (j * w) w 1 r
-    → x ≡ eqb (number r.now) (be (length r.now) c (get_or t (j * 4 + 4) 0 - w)) → not x ≡ alien_by c t w s.now j
+pub alien_by_lem : (s r : Bor (List ℕ)) (c : List ℕ) (t : List Row) (w j : ℕ) {x : Bool} → j * w + w ≤ length s.now → RecordsOf s (j * w) w 1 r
+    → x ≡ eqb (number r.now) (be (length r.now) c (start_in t (j + 1) - w)) → not x ≡ alien_by c t w s.now j
 unfolding alien_by
 alien_by_lem s r c t w j {x} g y v =
     let u = run_in s r (j * w) w g y in
     let m : x ≡ eqb (be w s.now (j * w)) (be w c (start_in t (j + 1) - w)) =
-    v ∙ rw (part_number u g, part_length u g, next_start t j) in
+    v ∙ rw (part_number u g, part_length u g) in
     ap not m
 
 module _ (z : ℕ) (c l : List ℕ) where
   -- a file has a trailer
-  pub long : (k : ℕ) {f : File} → open_at z c l k ≡ Open f → f.width ≤ length (part_at z c l k)
+  pub long : (k : ℕ) {f : File} → open_at z c l k ≡ Ok f → f.width ≤ length (part_at z c l k)
   long k {f} e = omega (arith, width_bounds f.width (is_open z c l k e).known, (is_open z c l k e).least)
 
   -- the ids of all files are as wide: each has 20 bytes
-  same_width : (i j : ℕ) {f g : File} → open_at z c l i ≡ Open f → open_at z c l j ≡ Open g → g.width ≡ f.width
+  same_width : (i j : ℕ) {f g : File} → open_at z c l i ≡ Ok f → open_at z c l j ≡ Ok g → g.width ≡ f.width
   unfolding known
   same_width i j {f} {g} p q = eqb-true g.width 20 (is_open z c l j q).known ∙ sym (eqb-true f.width 20 (is_open z c l i p).known)
 
-  module _ {t : List ℕ} (p : Tabled z c l t) where
+  module _ {t : List Row} (p : Tabled z c l t) where
     -- where the trailer of file j lies in the chain
-    trailer_is : (j : ℕ) → j < records_of z l → {g : File} → open_at z c l j ≡ Open g
+    trailer_is : (j : ℕ) → j < records_of z l → {g : File} → open_at z c l j ≡ Ok g
         → (g.width ≤ start_in t (j + 1)) × (be g.width c (start_in t (j + 1) - g.width) ≡ trailer_at z c l j)
     unfolding trailer_at width_in part_at
     trailer_is j h {g} o =
@@ -74,7 +69,7 @@ module _ (z : ℕ) (c l : List ℕ) where
               (sym (be_part g.width c (start_at z c l j) (length_at z l j) (length_at z l j - g.width) (omega arith))),
         )
 
-    module _ {i : ℕ} (b : i < records_of z l) {f : File} (o : open_at z c l i ≡ Open f) where
+    module _ {i : ℕ} (b : i < records_of z l) {f : File} (o : open_at z c l i ≡ Ok f) where
       pub bases_long : {ids : List ℕ} → ids ≡ base_part (part_at z c l i) f → length ids ≡ f.bases * f.width
       bases_long e = ap length e ∙ length_part f.base (f.bases * f.width) (part_at z c l i) (is_open z c l i o).fitted.base
 
@@ -87,66 +82,82 @@ module _ (z : ℕ) (c l : List ℕ) where
           let q = p.opens j (omega arith) in
           rw (o, ← (trailer_is j (omega arith) q.1).1, same_width i j o q.1)
 
-      pub base_told : {ids : List ℕ} {j : ℕ} → ids ≡ base_part (part_at z c l i) f → j ≡ first (alien_by c t f.width ids) 0 i
-          → j ≡ bad_base z c l i
-      unfolding bad_base
-      base_told e d =
-          d ∙ ap (λ (x : List ℕ). first (alien_by c t f.width x) 0 i) e
-          ∙ first_same _ _ 0 i (λ j a h. alien_is j (omega arith))
+      -- the first alien base
+      base_told : {ids : List ℕ} → ids ≡ base_part (part_at z c l i) f → first (alien_by c t f.width ids) 0 i ≡ first (alien z c l i) 0 i
+      base_told e = rw e (first_same _ _ 0 i (λ j a h. alien_is j (omega arith)))
 
--- 62 and 63 are not 61
-not_61 : (n : ℕ) (b : Bool) (rest : ℕ) → (n ≡ 61 → ⊥) → (rest ≡ 61 → ⊥) → (n if b else rest) ≡ 61 → ⊥
-unfolding ◌if◌else◌
-not_61 n true rest h g e = h e
-not_61 n false rest h g e = g e
+-- refusal 61 of a file with i bases: base j is alien, and no base before it; or none is
+module _ (p : ℕ → Bool) (i j : ℕ) (e : j ≡ first p 0 i) where
+  pub alien_hit : j < i → Err (refusal Reason.BaseId j) ≡ alien_rule p i
+  unfolding alien_rule ◌if◌else◌
+  alien_hit h = rw (← e, lt-ltb j i h)
 
-sum_not : (w : ℕ) (p : List ℕ) → sum_rule w p ≡ 61 → ⊥
-unfolding sum_rule
-sum_not w p e = not_61 62 _ 0 (λ k. omega arith) (λ k. omega arith) e
+  pub alien_none : i ≤ j → Ok tt ≡ alien_rule p i
+  unfolding alien_rule ◌if◌else◌
+  alien_none h = rw (← e, le-ltb j i h)
 
-name_not : (w z : ℕ) (l : List ℕ) (i : ℕ) (p : List ℕ) → name_rule w z l i p ≡ 61 → ⊥
-unfolding name_rule
-name_not w z l i p e = not_61 63 _ _ (λ k. omega arith) (λ k. not_61 63 _ 0 (λ m. omega arith) (λ m. omega arith) k) e
+-- each of 60 to 63 with its own place: only that of 61 is not 0
+placed_rows : (many strange wrong kind claim : Bool) (j : ℕ)
+    → (let head = (Err Reason.Bases if many else Err Reason.BaseId if strange else fine) or
+    (Err Reason.Checksum if wrong else fine) or
+    (Err Reason.Name if kind else Err Reason.Name if claim else fine) in
+    refused_at (Err Reason.Bases if many else fine) 0 or
+    refused_at (Err Reason.BaseId if strange else fine) j or
+    refused_at (Err Reason.Checksum if wrong else fine) 0 or
+    refused_at (Err Reason.Name if kind else Err Reason.Name if claim else fine) 0
+    ≡ refused_at head (j if eqb (number_in head) 61 else 0))
+unfolding ◌if◌else◌ ◌or◌
+placed_rows true b c d e j = refl
+placed_rows false true c d e j = refl
+placed_rows false false true d e j = refl
+placed_rows false false false true e j = refl
+placed_rows false false false false true j = refl
+placed_rows false false false false false j = refl
 
--- what 60 to 63 said: the bases, the first bad one, the sum, the name
-module _ (z : ℕ) (c l : List ℕ) (i : ℕ) (there : i < records_of z l) {f : File} (o : open_at z c l i ≡ Open f) where
-  pub head_bases : (f.bases ≡ i → ⊥) → JudgedAs z c l i (record { number = 60; place = 0 })
+-- what 60 to 63 say of file i, with the record f
+module _ (z : ℕ) (c l : List ℕ) (i : ℕ) {f : File} (o : open_at z c l i ≡ Ok f) where
+  -- 60 alone
+  pub head_bases : (f.bases ≡ i → ⊥) → JudgedAs z c l i (Err (refusal Reason.Bases 0))
   unfolding head_rule head_place base_rule bases_in ◌if◌else◌ ◌or◌
-  head_bases h = let y = ne_not f.bases i h in record { number = rw (o, y); place = rw (o, y) }
+  head_bases h = rw (o, ne_not f.bases i h)
 
-  module _ (e : f.bases ≡ i) {j : ℕ} (q : j ≡ bad_base z c l i) where
-    pub head_base : j < i → JudgedAs z c l i (record { number = 61; place = j })
-    unfolding head_rule head_place base_rule bases_in ◌if◌else◌ ◌or◌
-    head_base h =
+  -- its number of bases is right: the others in turn, of its base ids `ids` and of its bytes s
+  module _ {t : List Row} (p : Tabled z c l t) (there : i < records_of z l) {s : List ℕ} (cut : s ≡ part_at z c l i)
+      (e : f.bases ≡ i) {ids : List ℕ} (b : ids ≡ base_part (part_at z c l i) f) where
+    head_is : JudgedAs z c l i
+        (alien_rule (alien_by c t f.width ids) i or
+        refused_at (sum_in f.width s) 0 or
+        refused_at (name_in f.width z l i s) 0)
+    unfolding head_rule head_place base_rule bases_in width_in sum_rule name_rule alien_rule bad_base ◌if◌else◌ ◌or◌
+    head_is =
         let y = eq_not f.bases i e in
-        let w : ltb (bad_base z c l i) i ≡ true = rw (← q) (lt-ltb j i h) in
-        record { number = rw (o, y, w); place = rw (o, y, w) q }
+        let d = is_open z c l i o in
+        let long = long z c l i o in
+        rw (
+          cut,
+          sum_plain f.width (part_at z c l i) d.known long,
+          name_plain f.width z l i (part_at z c l i) there d.known long,
+          base_told z c l p there o b,
+          o,
+          y,
+        )
+        (placed_rows false _ _ _ _ _)
 
-    module _ (h : i ≤ j) where
-      fine : base_rule z c l i ≡ 0
-      unfolding base_rule bases_in ◌if◌else◌
-      fine = let y = eq_not f.bases i e in let w : ltb (bad_base z c l i) i ≡ false = rw (← q) (le-ltb j i h) in rw (o, y, w)
+    -- the ways through them
+    pub head_base : {e : Refusal} → Err e ≡ alien_rule (alien_by c t f.width ids) i → JudgedAs z c l i (Err e)
+    unfolding ◌or◌
+    head_base h = rw (← h) at head_is
 
-      rest : head_rule z c l i ≡ (sum_rule f.width (part_at z c l i) or name_rule f.width z l i (part_at z c l i))
-      unfolding head_rule width_in
-      rest = or_miss _ fine ∙ rw o
+    module _ (h : Ok tt ≡ alien_rule (alien_by c t f.width ids) i) where
+      pub head_sum : {e : Reason} → Err e ≡ sum_in f.width s → JudgedAs z c l i (Err (refusal e 0))
+      unfolding ◌or◌
+      head_sum g = rw (← h, ← g) at head_is
 
-      -- a number that is not 61 has place 0
-      plain : {n : ℕ} → n ≡ head_rule z c l i → (n ≡ 61 → ⊥) → JudgedAs z c l i (record { number = n; place = 0 })
-      unfolding head_place ◌if◌else◌
-      plain y w = record { number = y; place = rw (ne_eqb (head_rule z c l i) 61 (λ k. w (y ∙ k))) }
+      module _ (g : Ok tt ≡ sum_in f.width s) where
+        pub head_name : {e : Reason} → Err e ≡ name_in f.width z l i s → JudgedAs z c l i (Err (refusal e 0))
+        unfolding ◌or◌
+        head_name y = rw (← h, ← g, ← y) at head_is
 
-      module _ {s : List ℕ} (p : s ≡ part_at z c l i) {a : ℕ} (y : a ≡ sum_in f.width s) where
-        summed : a ≡ sum_rule f.width (part_at z c l i)
-        summed = y ∙ ap (sum_in f.width) p ∙ sum_plain f.width (part_at z c l i) (is_open z c l i o).known (long z c l i o)
-
-        pub head_sum : 0 < a → JudgedAs z c l i (record { number = a; place = 0 })
-        head_sum g =
-            plain (or_hit a _ g ∙ ap (λ (k : ℕ). k or name_rule f.width z l i (part_at z c l i)) summed ∙ sym rest)
-            (λ k. sum_not f.width (part_at z c l i) (sym summed ∙ k))
-
-        pub head_name : a ≤ 0 → {b : ℕ} → b ≡ name_in f.width z l i s → JudgedAs z c l i (record { number = b; place = 0 })
-        head_name g {b} x =
-            let v : b ≡ name_rule f.width z l i (part_at z c l i) = x ∙ ap (name_in f.width z l i) p
-            ∙ name_plain f.width z l i (part_at z c l i) there (is_open z c l i o).known (long z c l i o) in
-            plain (v ∙ sym (rest ∙ or_miss _ (sym summed ∙ omega arith))) (λ k. name_not f.width z l i (part_at z c l i) (sym v ∙ k))
+        pub head_fine : Ok tt ≡ name_in f.width z l i s → JudgedAs z c l i (Ok tt)
+        unfolding ◌or◌
+        head_fine y = rw (← h, ← g, ← y) at head_is

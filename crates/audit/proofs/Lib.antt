@@ -1,3 +1,4 @@
+pub mod Mapped
 pub mod Tabling
 pub mod Meeting
 pub mod Heading

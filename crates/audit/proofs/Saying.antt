@@ -1,16 +1,12 @@
 -- What each answer says tells its cases and their values apart: a way back for each image.
-use Prim.Native.Nat.{ℕ, zero, suc}
-use mathlib.Core.List.{List, [], ◌∷◌}
-use mathlib.Core.Path.{◌≡◌, refl, ap}
-use lib.ListN.{get_or, drop, length, take}
+use Rattle.std.proofs.Common.{ℕ, zero, suc, List, [], ◌∷◌, ◌≡◌, refl, ap, get_or, drop, take, Result, Ok, Err}
 use Rattle.types.specs.Said.{Said}
 use Rattle.types.specs.declared.refusal.Refusal.{Refusal}
-use Rattle.types.proofs.Saying.{Back, refusal_of}
+use Rattle.types.proofs.Saying.{Back, refusal_of, refusal_back}
 use Rattle.audit.specs.Said.{cyclic_of, steps_of, length_said, verdict_said, verification_said}
 use Rattle.audit.specs.declared.Length.{Length}
 use Rattle.audit.specs.declared.Length.TheVariants.{Steps, Cyclic}
-use Rattle.audit.specs.declared.Verdict.{Verdict}
-use Rattle.audit.specs.declared.Verdict.TheVariants.{Accepted, Refused}
+use Rattle.audit.specs.declared.Summary.{Summary}
 use Rattle.audit.specs.declared.Verification.{Verification}
 
 abbrev length_from : ℕ → ℕ → Length
@@ -27,17 +23,17 @@ length_again Cyclic = refl
 pub length_back : Back length_said
 length_back = record { of = length_of_lem; back = length_again }
 
-abbrev verdict_from : Refusal → List ℕ → Verdict
-verdict_from r [] = Refused r
-verdict_from r (n ∷ vs) = Accepted (record { commits = n; length = length_from (get_or vs 0 0) (get_or vs 1 0) })
+abbrev verdict_from : Refusal → List ℕ → Result Summary Refusal
+verdict_from r [] = Err r
+verdict_from r (n ∷ vs) = Ok (record { commits = n; length = length_from (get_or vs 0 0) (get_or vs 1 0) })
 
-abbrev verdict_of : Said → Verdict
+abbrev verdict_of : Said → Result Summary Refusal
 verdict_of s = verdict_from (refusal_of s) s.values
 
-verdict_again : (a : Verdict) → verdict_of (verdict_said a) ≡ a
+verdict_again : (a : Result Summary Refusal) → verdict_of (verdict_said a) ≡ a
 unfolding verdict_said
-verdict_again (Accepted s) = ap (λ (x : Length). Accepted (record { commits = s.commits; length = x })) (length_again s.length)
-verdict_again (Refused r) = refl
+verdict_again (Ok s) = ap (λ (x : Length). Ok (record { commits = s.commits; length = x })) (length_again s.length)
+verdict_again (Err r) = ap Err (refusal_back r)
 
 pub verdict_back : Back verdict_said
 verdict_back = record { of = verdict_of; back = verdict_again }
@@ -52,10 +48,11 @@ verification_again : (a : Verification) → verification_of (verification_said a
 unfolding verdict_said
 verification_again a = go a.verdict
   where
-    go : (v : Verdict) → verification_of (verification_said (record { verdict = v; counts = a.counts })) ≡ record { verdict = v; counts = a.counts }
-    go (Accepted s) =
-        ap (λ (x : Length). record { verdict = Accepted (record { commits = s.commits; length = x }); counts = a.counts }) (length_again s.length)
-    go (Refused r) = refl
+    go : (v : Result Summary Refusal)
+        → verification_of (verification_said (record { verdict = v; counts = a.counts })) ≡ record { verdict = v; counts = a.counts }
+    go (Ok s) =
+        ap (λ (x : Length). record { verdict = Ok (record { commits = s.commits; length = x }); counts = a.counts }) (length_again s.length)
+    go (Err r) = ap (λ (x : Refusal). record { verdict = Err x; counts = a.counts }) (refusal_back r)
 
 pub verification_back : Back verification_said
 verification_back = record { of = verification_of; back = verification_again }

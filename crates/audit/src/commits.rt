@@ -1,17 +1,18 @@
 // The commits of one file of a chain in turn: the first refusal, and what they add to the counts and the highest generation.
-ghost use Rattle.std.specs.Prelude.{◌≡◌, ◌+◌, min};
+ghost use Rattle.std.specs.Prelude.{◌≡◌, ◌+◌, min, Ok};
 ghost use Rattle.ancestry.specs.Graph.{cap};
 ghost use Rattle.file.specs.Table.{opening};
-ghost use Rattle.file.specs.declared.Opening.TheVariants.{Open};
+ghost use Rattle.steps.specs.Walks.{shown};
 ghost use Rattle.audit.specs.Scans.{part_by, Home, TriedAs, Starts, ScansAs};
 
 use super::meets::meet;
-use chunk::{missing, size, start};
-use commit::Asked;
+use super::tables::Row;
+use commit::Commit;
 use file::File;
-use tries::{Tried, key, row_in, stopped};
-use types::refusal::GENERATION;
-use words::part::part;
+use fit::parts::Fit;
+use tries::{Tried, key, row_in};
+use types::refusal;
+use types::refusal::{Reason, Refusal};
 
 // What the commits of some files come to: how many have each number of parents, and their highest generation.
 #[derive(Clone, Copy)]
@@ -20,97 +21,61 @@ pub struct Tally {
     pub highest: u32,
 }
 
-// How the commits of a file went, and the tally up to its end.
-#[derive(Clone, Copy)]
-pub struct Scanned {
-    pub number: u32,
-    pub place: u32,
-    pub tally: Tally,
-}
-
 // One more than the highest among the parents', or the cap.
 fn right(h: u32) -> u32
     ensures { result ≡ min (1 + h) cap }
 {
-    if h < 1_073_741_823 {
-        h + 1
-    } else {
-        1_073_741_823
-    }
+    h.saturating_add(1).min(1_073_741_823)
 }
 
-// A commit of file `i`, whose row was answered by `a`: its parents, and 69.
-fn attempt(chain: &[u8], table: &[usize], i: usize, a: Asked, edge: &[u8], there: bool) -> Tried
+// A commit of file `i`, whose row was answered: its parents, and 69.
+fn attempt(
+    chain: &[u8],
+    table: &[Row],
+    i: usize,
+    row: Result<Commit, Refusal>,
+    edge: Option<&[u8]>,
+) -> Result<Tried, Reason>
     requires { Home chain.now table.now i }
-    ensures { TriedAs chain.now table.now i a there edge.now result }
+    ensures { TriedAs chain.now table.now i row (shown edge.entry) result }
 {
-    match a {
-        Asked::Refused(r) => stopped(r.number),
-        Asked::Commit(x) => {
-            let first = x.first;
-            let second = x.second;
-            let t = meet(chain, table, i, first, second, edge, there);
-            if 0 < t.number {
-                return stopped(t.number);
-            }
-            if x.generation != right(t.highest) {
-                return stopped(GENERATION);
-            }
-            Tried {
-                number: 0,
-                parents: t.parents,
-                generation: x.generation,
-            }
-        }
+    let commit = row.map_err(|refusal| refusal.reason)?;
+    let met = meet(chain, table, i, commit.first, commit.second, edge)?;
+    if commit.generation != right(met.highest) {
+        return Err(Reason::Generation);
     }
+    Ok(Tried {
+        parents: met.parents,
+        generation: commit.generation,
+    })
 }
 
 // The commits of file `i`, which is `s` with the record `f`; the tally goes on from that of the files before.
 pub(crate) fn scan(
     chain: &[u8],
-    table: &[usize],
+    table: &[Row],
     i: usize,
     s: &[u8],
     f: File,
     before: Tally,
-) -> Scanned
+) -> Result<Tally, Refusal>
     requires starts { Starts chain.now table.now i before }
-    requires s_value { (s.now ≡ part_by chain.now table.now i) × (opening s.now ≡ Open f) }
+    requires s_value { (s.now ≡ part_by chain.now table.now i) × (opening s.now ≡ Ok f) }
     ensures { ScansAs chain.now table.now i before result }
 {
-    let w = f.width;
-    let n = f.commits;
-    let e = f.edge;
-    let fan = part(s, f.oidf, 256, 4);
-    let ids = part(s, f.oidl, n as usize, w);
-    let rows = part(s, f.cdat, n as usize, w + 16);
-    let edge = part(s, start(e), size(e), 1);
-    let there = !missing(e);
-    let mut counts = before.counts;
-    let mut highest = before.highest;
-    let mut k = 0;
-    while k < n {
-        let a = row_in(fan, ids, rows, w, k);
-        let t = attempt(chain, table, i, a, edge, there);
-        if 0 < t.number {
-            let tally = Tally { counts, highest };
-            return Scanned {
-                number: t.number,
-                place: k,
-                tally,
-            };
-        }
-        let j = key(t.parents);
-        counts[j] += 1;
-        if highest < t.generation {
-            highest = t.generation;
-        }
-        k += 1;
+    let fit = Fit { bytes: s, file: f };
+    let fan = fit.fan();
+    let ids = fit.ids();
+    let rows = fit.rows();
+    let edge = fit.edge();
+    let mut tally = before;
+    for k in 0..f.commits {
+        let row = row_in(fan, ids, rows, f.width, k);
+        let tried = attempt(chain, table, i, row, edge).map_err(|reason| refusal::at(
+            reason, k as u64,
+        ))?;
+        tally.counts[key(tried.parents)] += 1;
+        tally.highest = tally.highest.max(tried.generation);
     }
-    let tally = Tally { counts, highest };
-    Scanned {
-        number: 0,
-        place: k,
-        tally,
-    }
+    Ok(tally)
 }

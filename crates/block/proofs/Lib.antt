@@ -1,2 +1,3 @@
 pub mod Schedule
+pub mod Joined
 pub mod Results

@@ -1,4 +1,4 @@
-// What the programs over stored cases share of their input: one record, and the phase of a walk in it.
+// What the programs over stored cases share of their input: its records, and the phase of a walk in it.
 #![tactic(auto)]
 
 pub mod record;

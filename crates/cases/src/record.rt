@@ -1,13 +1,12 @@
-// A record of standard input: a kind, a length of 4 bytes and that many bytes.
-ghost use Rattle.std.specs.Prelude.{◌≡◌, length};
+// Records of standard input: a kind, a length of 4 bytes and that many bytes.
+ghost use Rattle.std.specs.Prelude.{◌≡◌, length, IfSome};
 ghost use Rattle.io.specs.Counts.{IsPrefixLen};
 
 use words::big::be32;
 
-// Whether there is one, its kind, and how many bytes it has.
-#[derive(Clone, Copy)]
+// A record's kind, and how many bytes it has.
+#[derive(Clone, Copy, Debug, PartialEq, Eq)]
 pub struct Record {
-    pub there: bool,
     pub kind: u8,
     pub size: usize,
 }
@@ -22,34 +21,39 @@ pub fn room() -> [u8; 320000]
     [0; 320000]
 }
 
-fn none() -> Record
-    ensures { result.size ≡ 0 }
-{
-    Record {
-        there: false,
-        kind: 0,
-        size: 0,
-    }
-}
-
 // Reads one record, and puts its bytes at the start of `buf`. There is none where the input ends, or where `buf` is too small.
-pub fn read(buf: &mut [u8]) -> Record
-    ensures { IsPrefixLen result.size buf.new }
+pub fn read(buf: &mut [u8]) -> Option<Record>
+    ensures { IfSome result (λ r. IsPrefixLen r.size buf.new) }
 {
     let mut head = [0u8; 5];
     if io::read_full(STDIN, &mut head) < 5 {
-        return none();
+        return None;
     }
     let n = be32(&head, 1) as usize;
     if buf.len() < n {
-        return none();
+        return None;
     }
     if io::read_full(STDIN, &mut buf[..n]) < n {
-        return none();
+        return None;
     }
-    Record {
-        there: true,
+    Some(Record {
         kind: head[0],
         size: n,
+    })
+}
+
+// Hands each record's kind and bytes to `answer`, until that says that no more are to be read, or there are none. The turns are
+// counted, for nothing says that the input ends.
+pub fn each<F: Fn(u8, &[u8]) -> bool>(answer: F)
+    requires { F.IsAlwaysCallable answer }
+{
+    for _ in 0..u64::MAX {
+        let mut bytes = room();
+        let Some(r) = read(&mut bytes) else {
+            return;
+        };
+        if !answer(r.kind, &bytes[..r.size]) {
+            return;
+        }
     }
 }

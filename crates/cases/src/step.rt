@@ -8,5 +8,5 @@ use steps::Phase;
 pub fn phase_of(kind: u8, k: usize) -> Phase
     ensures { Answers phase_said result (phase_of kind k) }
 {
-    steps::phase_of(kind as u32, k)
+    steps::phase_of(u32::from(kind), k)
 }

@@ -1,20 +1,20 @@
 // The parent list of a commit: what it answers, and what the lent list holds afterwards.
-use parents::Total;
 use prints::print::{number, print, refusal};
 use types::graph::Position;
+use types::refusal::Refusal;
 use walk::listing::list_at;
 use words::big::be32;
 
 // What a list holds before it is lent. It is above every position that a walk answers.
 const MARK: u32 = 0xEEEEEEEE;
 
-fn total(t: Total) {
+fn total(t: Result<usize, Refusal>) {
     match t {
-        Total::Count(n) => {
+        Ok(n) => {
             print(b" count");
             number(n as u64);
         }
-        Total::Refused(r) => {
+        Err(r) => {
             print(b" ");
             refusal(r);
         }
@@ -26,19 +26,7 @@ fn entry(x: u32) {
     if x == MARK {
         print(b" _");
     } else {
-        number(x as u64);
-    }
-}
-
-// Prints the entries up to `last`.
-fn entries(out: &[u32; 81], last: usize) {
-    let mut i = 0;
-    while i < 81 {
-        if last < i {
-            return;
-        }
-        entry(out[i]);
-        i += 1;
+        number(u64::from(x));
     }
 }
 
@@ -49,23 +37,23 @@ pub fn listed(chain: &[u8], list: &[u8], pos: Position, size: usize) {
     }
     let mut out = [MARK; 81];
     total(list_at(chain, list, pos, &mut out[..size]));
-    entries(&out, size);
+    for x in &out[..=size] {
+        entry(*x);
+    }
 }
 
 // Prints the line of a list that is asked for.
 fn line(chain: &[u8], list: &[u8], pos: Position, size: u32) {
     print(b"list");
-    number(pos.0 as u64);
-    number(size as u64);
+    number(u64::from(pos.0));
+    number(u64::from(size));
     listed(chain, list, pos, size as usize);
     print(b"\n");
 }
 
 // Prints a line for each list that is asked: a position (4 bytes) and how many entries to lend (4).
 pub fn lists(chain: &[u8], list: &[u8], asked: &[u8]) {
-    let mut at = 0;
-    while 8 <= asked.len() - at {
-        line(chain, list, Position(be32(asked, at)), be32(asked, at + 4));
-        at += 8;
+    for question in asked.chunks_exact(8) {
+        line(chain, list, Position(be32(question, 0)), be32(question, 4));
     }
 }

@@ -12,7 +12,7 @@ mod show;
 mod step;
 mod whole;
 
-use cases::record::{read, room};
+use cases::record::each;
 use listed::lists;
 use show::{found, positions};
 use step::steps;
@@ -51,21 +51,6 @@ fn answer(kind: u8, s: &[u8]) -> bool {
     ask(kind, rest(more), lead(s), lead(more))
 }
 
-// Reads one record and answers it. Says whether there may be more.
-fn record() -> bool {
-    let mut bytes = room();
-    let r = read(&mut bytes);
-    if !r.there {
-        return false;
-    }
-    let n = r.size;
-    answer(r.kind, &bytes[..n])
-}
-
-// The turns are counted, for nothing says that the input ends.
 fn main() {
-    let mut turns = u64::MAX;
-    while turns > 0 && record() {
-        turns -= 1;
-    }
+    each(answer);
 }

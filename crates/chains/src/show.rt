@@ -1,39 +1,37 @@
 // Words of where a position stands, of the answers by position, and of lookup.
-use access::Asking;
-use ask::lookup::{Found, find};
+use ask::lookup::find;
 use ask::positions::{commit_at, id_at, tree_at, which};
-use commit::{Asked, Commit, ParentEdge};
-use graph::locate::{Located, Spot, locate};
+use commit::{Commit, ParentEdge};
+use graph::locate::{Spot, locate};
 use prints::print::{hex, number, print, refusal};
 use types::graph::Position;
+use types::refusal::Refusal;
 use words::big::be32;
 
 // Prints the file of a position: its index, where it starts, its size, the position there and the file's commits.
 fn spot(s: Spot) {
-    let at = s.pos;
-    let f = s.inner;
     print(b" file");
-    number(s.file as u64);
+    number(u64::from(s.file));
     number(s.start as u64);
     number(s.size as u64);
-    number(at.0 as u64);
-    number(f.commits as u64);
+    number(u64::from(s.pos.0));
+    number(u64::from(s.inner.commits));
 }
 
-fn located(a: Located) {
+fn located(a: Result<Spot, Refusal>) {
     match a {
-        Located::At(s) => spot(s),
-        Located::Refused(r) => {
+        Ok(s) => spot(s),
+        Err(r) => {
             print(b" ");
             refusal(r);
         }
     }
 }
 
-fn asking(a: Asking) {
+fn asking(a: Result<(), Refusal>) {
     match a {
-        Asking::Fine => print(b" fine"),
-        Asking::Refused(r) => {
+        Ok(()) => print(b" fine"),
+        Err(r) => {
             print(b" ");
             refusal(r);
         }
@@ -42,7 +40,7 @@ fn asking(a: Asking) {
 
 // Prints a part in digits, or that it is empty.
 fn bytes(s: &[u8]) {
-    if s.len() == 0 {
+    if s.is_empty() {
         print(b" empty");
     } else {
         print(b" ");
@@ -55,28 +53,26 @@ fn edge(e: ParentEdge) {
         ParentEdge::None => print(b" none"),
         ParentEdge::GraphPosition(p) => {
             print(b" position");
-            number(p.0 as u64);
+            number(u64::from(p.0));
         }
         ParentEdge::ExtraEdgeIndex(k) => {
             print(b" edge");
-            number(k as u64);
+            number(u64::from(k));
         }
     }
 }
 
 fn fields(c: Commit) {
-    let first = c.first;
-    let second = c.second;
-    number(c.generation as u64);
+    number(u64::from(c.generation));
     number(c.time);
-    edge(first);
-    edge(second);
+    edge(c.first);
+    edge(c.second);
 }
 
-fn asked(a: Asked) {
+fn asked(a: Result<Commit, Refusal>) {
     match a {
-        Asked::Commit(c) => fields(c),
-        Asked::Refused(r) => {
+        Ok(c) => fields(c),
+        Err(r) => {
             print(b" ");
             refusal(r);
         }
@@ -86,12 +82,12 @@ fn asked(a: Asked) {
 // Prints the line of a lookup.
 pub fn found(chain: &[u8], list: &[u8], id: &[u8]) {
     match find(chain, list, id) {
-        Found::At(p) => {
+        Ok(Some(p)) => {
             print(b"at");
-            number(p.0 as u64);
+            number(u64::from(p.0));
         }
-        Found::Absent => print(b"absent"),
-        Found::Refused(r) => refusal(r),
+        Ok(None) => print(b"absent"),
+        Err(r) => refusal(r),
     }
     print(b"\n");
 }
@@ -99,7 +95,7 @@ pub fn found(chain: &[u8], list: &[u8], id: &[u8]) {
 // Prints what the questions by position answer: where it stands, which refusal, the id, the tree, the commit.
 pub fn position(chain: &[u8], list: &[u8], pos: Position) {
     print(b"position");
-    number(pos.0 as u64);
+    number(u64::from(pos.0));
     located(locate(chain, list, pos));
     asking(which(chain, list, pos));
     bytes(id_at(chain, list, pos));
@@ -109,10 +105,8 @@ pub fn position(chain: &[u8], list: &[u8], pos: Position) {
 
 // Prints a line for each position that is asked, 4 bytes each.
 pub fn positions(chain: &[u8], list: &[u8], asked: &[u8]) {
-    let mut at = 0;
-    while 4 <= asked.len() - at {
-        position(chain, list, Position(be32(asked, at)));
+    for question in asked.chunks_exact(4) {
+        position(chain, list, Position(be32(question, 0)));
         print(b"\n");
-        at += 4;
     }
 }

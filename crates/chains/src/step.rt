@@ -1,6 +1,5 @@
 // The parents of a commit: the whole walk, and single steps.
 use cases::step::phase_of;
-use parents::Answer;
 use prints::print::{number, print, refusal};
 use prints::step::{answer, phase};
 use steps::Phase;
@@ -14,43 +13,35 @@ pub fn walk(chain: &[u8], list: &[u8], commit: Position) {
         commit,
         phase: Phase::First,
     };
-    let mut left = u64::MAX;
-    while 0 < left {
+    for _ in 0..u64::MAX {
         let x = at.step(chain, list);
-        let told = x.answer;
-        let next = x.next;
-        match told {
-            Answer::Parent(p) => number(p.position.0 as u64),
-            Answer::Refused(r) => {
+        match x.answer {
+            Ok(Some(p)) => number(u64::from(p.position.0)),
+            Ok(None) => {
+                print(b" .");
+                return;
+            }
+            Err(r) => {
                 print(b" ");
                 refusal(r);
                 return;
             }
-            Answer::End => {
-                print(b" .");
-                return;
-            }
         }
-        at = next;
-        left -= 1;
+        at = x.next;
     }
 }
 
 // Prints where a walk stands.
 fn stands(w: Walk) {
-    let commit = w.commit;
-    let p = w.phase;
     print(b" walk");
-    number(commit.0 as u64);
-    phase(p);
+    number(u64::from(w.commit.0));
+    phase(w.phase);
 }
 
 // Prints a step: what it answers, and the walk after it.
 fn stepped(x: Step) {
-    let told = x.answer;
-    let next = x.next;
-    answer(told);
-    stands(next);
+    answer(x.answer);
+    stands(x.next);
 }
 
 // Prints the line of a step: by value, then through the second door.
@@ -63,11 +54,9 @@ fn step(chain: &[u8], list: &[u8], from: Walk) {
 
 // Prints a line for each step that is asked: a position (4 bytes), a phase (1) and an EDGE number (8).
 pub fn steps(chain: &[u8], list: &[u8], asked: &[u8]) {
-    let mut at = 0;
-    while 13 <= asked.len() - at {
-        let commit = Position(be32(asked, at));
-        let phase = phase_of(asked[at + 4], be64(asked, at + 5) as usize);
+    for question in asked.chunks_exact(13) {
+        let commit = Position(be32(question, 0));
+        let phase = phase_of(question[4], be64(question, 5) as usize);
         step(chain, list, Walk { commit, phase });
-        at += 13;
     }
 }

@@ -3,7 +3,7 @@ use super::listed::listed;
 use super::show::{found, position};
 use super::step::walk;
 use ask::positions::id_at;
-use graph::init::{Opening, open};
+use graph::init::open;
 use prints::print::{number, print, refusal};
 use types::graph::Position;
 
@@ -19,41 +19,35 @@ fn line(chain: &[u8], list: &[u8], pos: Position) {
 
 // Prints the lines of the positions up to `n`.
 fn lines(chain: &[u8], list: &[u8], n: u32) {
-    let mut i = 0;
-    while i < n {
+    for i in 0..=n {
         line(chain, list, Position(i));
-        i += 1;
     }
-    line(chain, list, Position(n));
 }
 
 // Prints where the id at a position is found.
 fn seek(chain: &[u8], list: &[u8], pos: Position) {
     print(b"id");
-    number(pos.0 as u64);
+    number(u64::from(pos.0));
     print(b" ");
     found(chain, list, id_at(chain, list, pos));
 }
 
 // The same for the positions up to `n`.
 fn seeks(chain: &[u8], list: &[u8], n: u32) {
-    let mut i = 0;
-    while i < n {
+    for i in 0..=n {
         seek(chain, list, Position(i));
-        i += 1;
     }
-    seek(chain, list, Position(n));
 }
 
 // Prints the opening, and hands back how many commits there are: 0 where it is refused.
 fn opening(chain: &[u8], list: &[u8]) -> u32 {
     match open(chain, list) {
-        Opening::Open(n) => {
+        Ok(n) => {
             print(b"open");
-            number(n as u64);
+            number(u64::from(n));
             n
         }
-        Opening::Refused(r) => {
+        Err(r) => {
             refusal(r);
             0
         }

@@ -1,16 +1,15 @@
--- What each case of `Chunk` and of `Indexed` says: where the chunk lies, and the entry; 0 for none.
-use Rattle.std.specs.Prelude.{[], ◌∷◌}
+-- What a chunk and an entry of the index say: where the chunk lies, and the entry; 0 for none.
+use Rattle.std.specs.Prelude.{[], ◌∷◌, Option, Some, None, Result, Ok, Err}
 use Rattle.types.specs.Said.{Said, says, refuses}
-use Rattle.chunk.specs.declared.Chunk.{Chunk}
-use Rattle.chunk.specs.declared.Chunk.TheVariants.{At, Absent}
-use Rattle.chunk.specs.declared.Indexed.{Indexed}
-use Rattle.chunk.specs.declared.Indexed.TheVariants.{Entry, Past, Refused}
+use Rattle.types.specs.declared.refusal.Refusal.{Refusal}
+use Rattle.chunk.specs.declared.Span.{Span}
+use Rattle.chunk.specs.declared.Entry.{Entry}
 
-unfoldable pub chunk_said : Chunk → Said
-chunk_said (At p) = says 1 (p.start ∷ p.end ∷ [])
-chunk_said Absent = says 0 (0 ∷ 0 ∷ [])
+unfoldable pub chunk_said : Option Span → Said
+chunk_said (Some p) = says 1 (p.start ∷ p.end ∷ [])
+chunk_said None = says 0 (0 ∷ 0 ∷ [])
 
-unfoldable pub indexed_said : Indexed → Said
-indexed_said (Entry e) = says 1 (e.id ∷ e.span.start ∷ e.span.end ∷ [])
-indexed_said Past = says 0 []
-indexed_said (Refused r) = refuses r
+unfoldable pub indexed_said : Result (Option Entry) Refusal → Said
+indexed_said (Ok (Some e)) = says 1 (e.id ∷ e.span.start ∷ e.span.end ∷ [])
+indexed_said (Ok None) = says 0 []
+indexed_said (Err r) = refuses r

@@ -1,19 +1,17 @@
-// One entry of the index, and the search for the first that has an id or that is refused.
+// One entry of the index, and the search for the first that has an id.
 ghost use Rattle.std.specs.Prelude.{◌≡◌, ◌+◌, ◌*◌, ◌<◌};
 ghost use Rattle.words.specs.First.{first};
-ghost use Rattle.chunk.specs.Index.{chunks, id_at, off_at, is_at, range_rule, entry_rule, bad};
+ghost use Rattle.chunk.specs.Index.{chunks, id_at, off_at, is_at, Found, range_rule, entry_rule};
 
-use types::refusal::{INDEX_ID, INDEX_OFFSET, INDEX_REPEATED};
+use super::Span;
+use types::refusal::Reason;
 use words::big::{be32, be64};
 
 // The number of entries before the last.
 pub(crate) fn count(s: &[u8]) -> usize
     ensures { (result ≡ chunks s.now) × (result < 256) }
 {
-    if s.len() <= 6 {
-        return 0;
-    }
-    s[6] as usize
+    s.get(6).map_or(0, |c| *c as usize)
 }
 
 // The id of entry `i`.
@@ -32,68 +30,63 @@ pub(crate) fn offset(s: &[u8], i: usize) -> usize
     be64(s, 12 + 12 * i) as usize
 }
 
-// The first of the first `n` entries whose id is `x`, or `n`.
-pub(crate) fn seek(s: &[u8], x: u32, n: usize) -> usize
+// The chunk of entry `i`: it runs to the next entry's offset.
+pub(crate) fn span(s: &[u8], i: usize) -> Span
+    requires { i < 255 }
+    ensures { (result.start ≡ off_at s.now i) × (result.end ≡ off_at s.now (i + 1)) }
+{
+    Span {
+        start: offset(s, i),
+        end: offset(s, i + 1),
+    }
+}
+
+// The first of the first `n` entries whose id is `x`.
+#[tactic(auto, using(words::proofs::Searches::searching), unfolding(crate::specs::Index::is_at))]
+pub(crate) fn seek(s: &[u8], x: u32, n: usize) -> Option<usize>
     requires { n < 256 }
-    ensures { result ≡ first (is_at s.now x) 0 n }
+    ensures { Found n (first (is_at s.now x) 0 n) result }
 {
-    let mut i = 0;
-    while i < n {
+    for i in 0..n {
         if id(s, i) == x {
-            return i;
+            return Some(i);
         }
-        i += 1;
     }
-    i
+    None
 }
 
-// Refusal 9, or 0: of a chunk from `a` to `e`, in a file of `n` bytes whose index ends at `low`.
-fn range_rule(n: usize, low: usize, a: usize, e: usize) -> u32
-    ensures { result ≡ range_rule n low a e }
+// Refusal 9 of a chunk in a file of `n` bytes whose index ends at `low`.
+#[tactic(auto, using(words::proofs::Rows::rows), unfolding(crate::specs::Index::range_rule))]
+fn range_rule(n: usize, low: usize, chunk: Span) -> Result<(), Reason>
+    ensures { result ≡ range_rule n low chunk.start chunk.end }
 {
-    if a < low {
-        return INDEX_OFFSET;
+    if chunk.start < low {
+        return Err(Reason::IndexOffset);
     }
-    if n < a {
-        return INDEX_OFFSET;
+    if n < chunk.start {
+        return Err(Reason::IndexOffset);
     }
-    if e < a {
-        return INDEX_OFFSET;
+    if chunk.end < chunk.start {
+        return Err(Reason::IndexOffset);
     }
-    if n < e {
-        return INDEX_OFFSET;
+    if n < chunk.end {
+        return Err(Reason::IndexOffset);
     }
-    0
+    Ok(())
 }
 
-// Refusals 7 to 9 of entry `i`, which is not the last, or 0.
-pub(crate) fn entry_rule(s: &[u8], c: usize, i: usize) -> u32
+// Refusals 7 to 9 of entry `i`, which is not the last.
+#[tactic(auto, using(words::proofs::Rows::rows), unfolding(crate::specs::Index::entry_rule, crate::specs::Index::seen))]
+pub(crate) fn entry_rule(s: &[u8], c: usize, i: usize) -> Result<(), Reason>
     requires { (c ≡ chunks s.now) × (c < 256) × (i < c) }
     ensures { result ≡ entry_rule s.now i }
 {
     let x = id(s, i);
     if x == 0 {
-        return INDEX_ID;
+        return Err(Reason::IndexId);
     }
-    if seek(s, x, i) < i {
-        return INDEX_REPEATED;
+    if seek(s, x, i).is_some() {
+        return Err(Reason::IndexRepeated);
     }
-    let a = offset(s, i);
-    let e = offset(s, i + 1);
-    range_rule(s.len(), 20 + 12 * c, a, e)
-}
-
-// The first entry before the last that is refused, or `c`.
-pub(crate) fn bad_entry(s: &[u8], c: usize) -> usize
-    requires { (c ≡ chunks s.now) × (c < 256) }
-    ensures { result ≡ first (bad s.now) 0 c }
-{
-    let mut i = 0;
-    while i < c {
-        if 0 < entry_rule(s, c, i) {
-            return i;
-        }
-        i += 1;
-    }
-    i
+    range_rule(s.len(), 20 + 12 * c, span(s, i))
 }

@@ -3,27 +3,21 @@
 
 mod index;
 
-ghost use Rattle.std.specs.Prelude.{◌≡◌, ◌+◌};
+ghost use Rattle.std.specs.Prelude.{◌≡◌, ◌+◌, is_none};
 ghost use Rattle.chunk.specs.Said.{chunk_said, indexed_said};
 ghost use Rattle.types.specs.Said.{Answers};
-ghost use Rattle.types.specs.Refusals.{refusal};
-ghost use Rattle.chunk.specs.Index.{chunks, off_at, chunk_of, absent, start_of, size_of, index_rule, index_place, nth_of};
+ghost use Rattle.types.specs.Refusals.{refused_at};
+ghost use Rattle.chunk.specs.Index.{chunks, off_at, chunk_of, start_of, size_of, index_rule, index_place, nth_of};
 
-use index::{bad_entry, count, entry_rule, id, offset, seek};
+use index::{count, entry_rule, id, offset, seek, span};
 use types::refusal;
-use types::refusal::Refusal;
+use types::refusal::{Reason, Refusal};
 
 // The bytes from `start` up to `end`, as the index says.
 #[derive(Clone, Copy)]
 pub struct Span {
     pub start: usize,
     pub end: usize,
-}
-
-#[derive(Clone, Copy)]
-pub enum Chunk {
-    At(Span),
-    Absent,
 }
 
 // An entry of the index: the chunk's id and its bytes.
@@ -33,58 +27,34 @@ pub struct Entry {
     pub span: Span,
 }
 
-#[derive(Clone, Copy)]
-pub enum Indexed {
-    Entry(Entry),
-    Past,
-    Refused(Refusal),
-}
-
-// The chunk with the id `x`.
-pub fn find(s: &[u8], x: u32) -> Chunk
+// The chunk with the id `x`, where there is one.
+#[tactic(auto, using(words::proofs::Rows::rows, types::proofs::Saying::answers), unfolding(crate::specs::Index::chunk_of, crate::specs::Index::chunk_at))]
+pub fn find(s: &[u8], x: u32) -> Option<Span>
     ensures { Answers chunk_said result (chunk_of s.now x) }
 {
-    let c = count(s);
-    let e = seek(s, x, c);
-    if c <= e {
-        return Chunk::Absent;
-    }
-    let start = offset(s, e);
-    let end = offset(s, e + 1);
-    Chunk::At(Span { start, end })
+    let e = seek(s, x, count(s))?;
+    Some(span(s, e))
 }
 
 // Whether a chunk is absent. An empty chunk is not.
-pub fn missing(c: Chunk) -> bool
-    ensures { result ≡ absent c }
+pub fn missing(c: Option<Span>) -> bool
+    ensures { result ≡ is_none c }
 {
-    let Chunk::At(_) = c else {
-        return true;
-    };
-    false
+    c.is_none()
 }
 
 // Where a chunk starts; 0 where it is absent.
-pub fn start(c: Chunk) -> usize
+pub fn start(c: Option<Span>) -> usize
     ensures { result ≡ start_of c }
 {
-    let Chunk::At(p) = c else {
-        return 0;
-    };
-    p.start
+    c.map_or(0, |p| p.start)
 }
 
 // How many bytes a chunk has; 0 where it is absent.
-pub fn size(c: Chunk) -> usize
+pub fn size(c: Option<Span>) -> usize
     ensures { result ≡ size_of c }
 {
-    let Chunk::At(p) = c else {
-        return 0;
-    };
-    if p.end < p.start {
-        return 0;
-    }
-    p.end - p.start
+    c.map_or(0, |p| p.end.saturating_sub(p.start))
 }
 
 // Where the chunks end: the offset of the last entry.
@@ -94,41 +64,34 @@ pub fn end(s: &[u8]) -> usize
     offset(s, count(s))
 }
 
-// Refusals 6 to 9 of the index. Number 0 where it is sound.
-pub fn check(s: &[u8]) -> Refusal
-    ensures { result ≡ refusal (index_rule s.now) (index_place s.now) }
+// Refusals 6 to 9 of the index.
+pub fn check(s: &[u8]) -> Result<(), Refusal>
+    ensures { result ≡ refused_at (index_rule s.now) (index_place s.now) }
 {
     let c = count(s);
     if s.len() < 20 + 12 * c {
-        return refusal::at(refusal::INDEX_CUT, 0);
+        return Err(refusal::at(Reason::IndexCut, 0));
     }
-    let e = bad_entry(s, c);
-    if e < c {
-        return refusal::at(entry_rule(s, c, e), e as u64);
+    for i in 0..c {
+        entry_rule(s, c, i).map_err(|reason| refusal::at(reason, i as u64))?;
     }
     if id(s, c) != 0 {
-        return refusal::at(refusal::INDEX_ID, e as u64);
+        return Err(refusal::at(Reason::IndexId, c as u64));
     }
-    refusal::at(0, e as u64)
+    Ok(())
 }
 
 // Entry `k` of a sound index, the last left out; 6 to 9 where the index is not sound.
-pub fn nth(s: &[u8], k: u32) -> Indexed
+pub fn nth(s: &[u8], k: u32) -> Result<Option<Entry>, Refusal>
     ensures { Answers indexed_said result (nth_of s.now k) }
 {
-    let r = check(s);
-    if 0 < r.number {
-        return Indexed::Refused(r);
-    }
+    check(s)?;
     let i = k as usize;
     if count(s) <= i {
-        return Indexed::Past;
+        return Ok(None);
     }
-    let id = id(s, i);
-    let start = offset(s, i);
-    let end = offset(s, i + 1);
-    Indexed::Entry(Entry {
-        id,
-        span: Span { start, end },
-    })
+    Ok(Some(Entry {
+        id: id(s, i),
+        span: span(s, i),
+    }))
 }

@@ -1,5 +1,5 @@
 -- K1 to K16 hold, by computation.
-use mathlib.Core.Path.{refl}
+use Rattle.std.proofs.Common.{refl}
 use Rattle.words.specs.Big.{be}
 use Rattle.words.specs.First.{◌if◌else◌}
 use Rattle.ancestry.specs.Graph.{highest_in, length_of}

@@ -1,6 +1,7 @@
 -- Document 01, "Coins on both sides of the line": K1 to K16, each what a definition gives and what the paper says.
-use Rattle.std.specs.Prelude.{ℕ, List, [], ◌∷◌, true, ◌≡◌, replicate}
+use Rattle.std.specs.Prelude.{ℕ, List, [], ◌∷◌, ◌≡◌, replicate, Some}
 use Rattle.ancestry.specs.Graph.{right_gen, length_of}
+use Rattle.types.specs.Refusals.{number_in}
 use Rattle.commit.specs.Commits.{edge_of, commit_of}
 use Rattle.steps.specs.Walks.{extra_of, edge_rule}
 use Rattle.commit.specs.declared.ParentEdge.{ParentEdge}
@@ -41,9 +42,9 @@ coins =
     ∷ coin ℕ (commit_of (dated (0 ∷ 0 ∷ 0 ∷ 7 ∷ 0 ∷ 0 ∷ 0 ∷ 5 ∷ [])) 0).time 12884901893
     ∷ coin ℕ (commit_of (dated (replicate 8 255)) 0).generation 1073741823  -- K9
     ∷ coin ℕ (commit_of (dated (replicate 8 255)) 0).time 17179869183
-    ∷ coin ℕ (edge_rule true (replicate 8 0) 2) 53  -- K10
-    ∷ coin ℕ (edge_rule true (replicate 6 0) 1) 54  -- K11
-    ∷ coin ℕ (edge_rule true (replicate 6 0) 2) 53  -- K12
+    ∷ coin ℕ (number_in (edge_rule (Some (replicate 8 0)) 2)) 53  -- K10
+    ∷ coin ℕ (number_in (edge_rule (Some (replicate 6 0)) 1)) 54  -- K11
+    ∷ coin ℕ (number_in (edge_rule (Some (replicate 6 0)) 2)) 53  -- K12
     ∷ coin ℕ (right_gen (λ p. p) []) 1  -- K13
     ∷ coin ℕ (right_gen (λ p. p) (1073741822 ∷ [])) 1073741823  -- K14
     ∷ coin ℕ (right_gen (λ p. p) (1073741823 ∷ [])) 1073741823  -- K15

@@ -1,16 +1,12 @@
 -- What each answer says tells its cases and their values apart: a way back for each image.
-use Prim.Native.Nat.{ℕ, zero, suc}
-use mathlib.Core.List.{List, [], ◌∷◌}
-use mathlib.Core.Path.{◌≡◌, refl, ap₂}
-use lib.ListN.{get_or}
+use Rattle.std.proofs.Common.{ℕ, zero, suc, List, [], ◌∷◌, ◌≡◌, refl, ap, ap₂, get_or, Result, Ok, Err}
 use Rattle.types.specs.Said.{Said}
 use Rattle.types.specs.declared.refusal.Refusal.{Refusal}
-use Rattle.types.proofs.Saying.{Back, refusal_of}
+use Rattle.types.proofs.Saying.{Back, refusal_of, refusal_back}
 use Rattle.commit.specs.Said.{edge_kind, edge_word, edge_said, asked_said}
+use Rattle.commit.specs.declared.Commit.{Commit}
 use Rattle.commit.specs.declared.ParentEdge.{ParentEdge}
 use Rattle.commit.specs.declared.ParentEdge.TheVariants.{None, GraphPosition, ExtraEdgeIndex}
-use Rattle.commit.specs.declared.Asked.{Asked}
-use Rattle.commit.specs.declared.Asked.TheVariants.{Commit, Refused}
 
 abbrev edge_from_lem : ℕ → ℕ → ParentEdge
 edge_from_lem zero x = None
@@ -28,25 +24,25 @@ edge_again (ExtraEdgeIndex k) = refl
 pub edge_back : Back edge_said
 edge_back = record { of = edge_of; back = edge_again }
 
-abbrev asked_from : Refusal → List ℕ → Asked
-asked_from r [] = Refused r
+abbrev asked_from : Refusal → List ℕ → Result Commit Refusal
+asked_from r [] = Err r
 asked_from r (g ∷ vs) =
-    Commit (record {
+    Ok (record {
       generation = g;
       time = get_or vs 0 0;
       first = edge_from_lem (get_or vs 1 0) (get_or vs 2 0);
       second = edge_from_lem (get_or vs 3 0) (get_or vs 4 0);
     })
 
-abbrev asked_of : Said → Asked
+abbrev asked_of : Said → Result Commit Refusal
 asked_of s = asked_from (refusal_of s) s.values
 
-asked_again : (a : Asked) → asked_of (asked_said a) ≡ a
+asked_again : (a : Result Commit Refusal) → asked_of (asked_said a) ≡ a
 unfolding asked_said
-asked_again (Commit c) =
-    ap₂ (λ (a b : ParentEdge). Commit (record { generation = c.generation; time = c.time; first = a; second = b }))
+asked_again (Ok c) =
+    ap₂ (λ (a b : ParentEdge). Ok (record { generation = c.generation; time = c.time; first = a; second = b }))
     (edge_again c.first) (edge_again c.second)
-asked_again (Refused r) = refl
+asked_again (Err r) = ap Err (refusal_back r)
 
 pub asked_back : Back asked_said
 asked_back = record { of = asked_of; back = asked_again }

@@ -1,14 +1,14 @@
 -- Commits: gitformat-commit-graph's "Commit Data" (CDAT).
-use Rattle.std.specs.Prelude.{ℕ, ◌+◌, ◌-◌, ◌*◌, ◌/◌, ◌%◌, ◌^◌, List, not, length, ltb, leb, eqb}
+use Rattle.std.specs.Prelude.{ℕ, ◌+◌, ◌-◌, ◌*◌, ◌/◌, ◌%◌, ◌^◌, List, not, length, ltb, leb, eqb, Result, Ok, Err, ⊤}
 use Rattle.types.specs.Refusals.{refusal}
+use Rattle.types.specs.declared.refusal.Reason.{Reason}
+use Rattle.types.specs.declared.refusal.Refusal.{Refusal}
 use Rattle.words.specs.Big.{be}
-use Rattle.words.specs.First.{◌if◌else◌, refuse}
+use Rattle.words.specs.First.{◌if◌else◌, fine, refuse}
 use Rattle.types.specs.Width.{known}
 use Rattle.fit.specs.Fits.{ask_rule, rows_part}
 use Rattle.file.specs.declared.File.{File}
 use Rattle.commit.specs.declared.Commit.{Commit}
-use Rattle.commit.specs.declared.Asked.{Asked}
-use Rattle.commit.specs.declared.Asked.TheVariants.{Commit as Is, Refused}
 use Rattle.commit.specs.declared.ParentEdge.{ParentEdge}
 use Rattle.commit.specs.declared.ParentEdge.TheVariants.{None, GraphPosition, ExtraEdgeIndex}
 
@@ -37,21 +37,21 @@ commit_of p at =
     }
 
 -- row i of n bytes of CDAT
-unfoldable pub row_rule : ℕ → ℕ → ℕ → ℕ
+unfoldable pub row_rule : ℕ → ℕ → ℕ → Result ⊤ Reason
 row_rule w n i =
-    40 if not (known w) else
-    40 if ltb n (i * (w + 16) + (w + 16)) else
-    0
+    Err Reason.Position if not (known w) else
+    Err Reason.Position if ltb n (i * (w + 16) + (w + 16)) else
+    fine
 
-abbrev pub not_commit : ℕ → Asked
-not_commit n = Refused (refusal n 0)
+abbrev pub not_commit : Reason → Result Commit Refusal
+not_commit e = Err (refusal e 0)
 
-unfoldable pub commit_in : ℕ → List ℕ → ℕ → Asked
-commit_in w p i = refuse (row_rule w (length p) i) not_commit (Is (commit_of p (i * (w + 16) + w)))
+unfoldable pub commit_in : ℕ → List ℕ → ℕ → Result Commit Refusal
+commit_in w p i = refuse (row_rule w (length p) i) not_commit (Ok (commit_of p (i * (w + 16) + w)))
 
 -- a commit of a file
 abbrev pub row_of : List ℕ → File → ℕ → Commit
 row_of l f i = commit_of (rows_part l f) (i * (f.width + 16) + f.width)
 
-unfoldable pub commit_at : List ℕ → File → ℕ → Asked
-commit_at l f i = refuse (ask_rule l f f.commits i) not_commit (Is (row_of l f i))
+unfoldable pub commit_at : List ℕ → File → ℕ → Result Commit Refusal
+commit_at l f i = refuse (ask_rule l f f.commits i) not_commit (Ok (row_of l f i))

@@ -4,19 +4,16 @@
 ghost use Rattle.std.specs.Prelude.{◌≡◌, ◌+◌, ◌*◌, ◌≤◌, ◌<◌, length};
 ghost use Rattle.commit.specs.Said.{asked_said};
 ghost use Rattle.types.specs.Said.{Answers};
-ghost use Rattle.types.specs.Refusals.{refusal};
 ghost use Rattle.commit.specs.Commits.{edge_of, row_rule, commit_of, commit_in, row_of, commit_at};
-ghost use Rattle.words.specs.Part.{PartOf};
-ghost use Rattle.fit.specs.Fits.{ask_rule, AskedPart, Fitted};
+ghost use Rattle.fit.specs.Fits.{ask_rule, AskedPart};
 
 use file::File;
 use fit::ask;
+use fit::parts::Fit;
 use types::graph::Position;
-use types::refusal;
-use types::refusal::{POSITION, Refusal};
+use types::refusal::{Reason, Refusal};
 use types::width::known;
 use words::big::be32;
-use words::part::part;
 
 // A parent word: none, a position in the chain, or an index into EDGE.
 #[derive(Clone, Copy)]
@@ -34,12 +31,7 @@ pub struct Commit {
     pub second: ParentEdge,
 }
 
-#[derive(Clone, Copy)]
-pub enum Asked {
-    Commit(Commit),
-    Refused(Refusal),
-}
-
+#[tactic(auto, using(words::proofs::Rows::rows), unfolding(crate::specs::Commits::edge_of))]
 fn parent_edge(raw: u32) -> ParentEdge
     ensures { result ≡ edge_of raw }
 {
@@ -52,21 +44,19 @@ fn parent_edge(raw: u32) -> ParentEdge
     ParentEdge::GraphPosition(Position(raw))
 }
 
-// Refusal 40 of row `i` of a CDAT chunk's part of `n` bytes, where ids have `w` bytes, or 0.
-fn row_rule(n: usize, w: usize, i: u32) -> u32
+// Refusal 40 of row `i` of a CDAT chunk's part of `n` bytes, where ids have `w` bytes.
+#[tactic(auto, using(crate::proofs::Words::placing), unfolding(crate::specs::Commits::row_rule))]
+fn row_rule(n: usize, w: usize, i: u32) -> Result<(), Reason>
     ensures { result ≡ row_rule w n i }
 {
-    if !known(w) {
-        return POSITION;
+    if !known(w) || n < (i as usize) * (w + 16) + (w + 16) {
+        return Err(Reason::Position);
     }
-    let r = w + 16;
-    if n < (i as usize) * r + r {
-        return POSITION;
-    }
-    0
+    Ok(())
 }
 
 // The fields at `at`, just behind a row's tree.
+#[tactic(auto, unfolding(crate::specs::Commits::commit_of))]
 fn fields(cdat: &[u8], at: usize) -> Commit
     requires { at + 16 ≤ length cdat.now }
     ensures { result ≡ commit_of cdat.now at }
@@ -84,52 +74,33 @@ fn fields(cdat: &[u8], at: usize) -> Commit
 }
 
 // The commit in row `pos` of a CDAT chunk's own part, where ids have `w` bytes.
-pub fn commit_in(cdat: &[u8], w: usize, pos: types::file::Position) -> Asked
+#[tactic(auto, using(crate::proofs::Words::row_there), unfolding(crate::specs::Commits::commit_in, words::specs::First::refuse))]
+pub fn commit_in(cdat: &[u8], w: usize, pos: types::file::Position) -> Result<Commit, Refusal>
     ensures { Answers asked_said result (commit_in w cdat.now pos.0) }
 {
     let i = pos.0;
-    let m = row_rule(cdat.len(), w, i);
-    if 0 < m {
-        return Asked::Refused(refusal::at(m, 0));
-    }
-    Asked::Commit(fields(cdat, (i as usize) * (w + 16) + w))
-}
-
-// The CDAT chunk's own part.
-fn cdat<'a>(s: &'a [u8], f: File) -> &'a [u8]
-    requires { Fitted s.now f }
-    ensures { PartOf s.entry f.cdat (f.commits * (f.width + 16)) result }
-{
-    part(s, f.cdat, f.commits as usize, f.width + 16)
+    row_rule(cdat.len(), w, i)?;
+    Ok(fields(cdat, (i as usize) * (w + 16) + w))
 }
 
 // A commit of a file.
-pub fn commit_at(s: &[u8], f: File, pos: types::file::Position) -> Asked
+#[tactic(auto, using(crate::proofs::Words::fields_room), unfolding(crate::specs::Commits::commit_at, words::specs::First::refuse))]
+pub fn commit_at(s: &[u8], f: File, pos: types::file::Position) -> Result<Commit, Refusal>
     ensures { Answers asked_said result (commit_at s.now f pos.0) }
 {
-    let m = ask(s, f, f.commits, pos.0);
-    if 0 < m {
-        return Asked::Refused(refusal::at(m, 0));
-    }
-    Asked::Commit(row_at(s, f, pos.0))
+    let fit = Fit::asked(s, f, f.commits, pos.0)?;
+    let row = (pos.0 as usize) * (f.width + 16);
+    Ok(fields(fit.rows(), row + f.width))
 }
 
 // The tree of a commit: the part of `s` that stores it, itself and no copy. Empty where the commit is refused.
+#[tactic(auto, using(fit::proofs::Fitting::no_error, fit::proofs::Fitting::answered, fit::proofs::Fitting::run_within))]
 pub fn tree_at<'a>(s: &'a [u8], f: File, pos: types::file::Position) -> &'a [u8]
     ensures { AskedPart s.entry (ask_rule s.now f f.commits pos.0) (f.cdat + pos.0 * (f.width + 16)) f.width result }
 {
-    if 0 < ask(s, f, f.commits, pos.0) {
-        return &s[0..0];
+    if ask(s, f, f.commits, pos.0).is_err() {
+        return &s[..0];
     }
-    part(cdat(s, f), (pos.0 as usize) * (f.width + 16), f.width, 1)
-}
-
-// The fields of commit `i`, of a record that fits.
-fn row_at(s: &[u8], f: File, i: u32) -> Commit
-    requires fitted { Fitted s.now f }
-    requires i_lt_commits { i < f.commits }
-    ensures { result ≡ row_of s.now f i }
-{
-    let w = f.width;
-    fields(cdat(s, f), (i as usize) * (w + 16) + w)
+    let tree = f.cdat + (pos.0 as usize) * (f.width + 16);
+    &s[tree..tree + f.width]
 }

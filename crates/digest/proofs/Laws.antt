@@ -1,9 +1,5 @@
 -- A hasher that has had a message gives the digest of it.
-use mathlib.Core.Path.{◌≡◌, refl, ap, ◌∙◌}
-use Prim.Native.Nat.{ℕ, ◌+◌, ◌%◌, ◌^◌}
-use mathlib.Core.List.{List}
-use native.Mathlib.Omega.{arith}
-use lib.ListN.{length}
+use Rattle.std.proofs.Common.{◌≡◌, ℕ, ◌+◌, ◌%◌, ◌^◌, List, length, refl, ap, ◌∙◌, arith}
 use Rattle.block.specs.Message.{after_all}
 use Rattle.block.specs.Fips.{compress}
 use Rattle.hasher.specs.Message.{padding}

@@ -1,5 +1,5 @@
--- SHA-1 as FIPS 180-4 defines it: the digest, over the step that one block makes (crate `block`, specs/Fips.antt). The first five words and what stands behind a
--- message are in the crate `hasher`, specs/Fips.antt and specs/Message.antt.
+-- SHA-1 as FIPS 180-4 defines it: the digest, over the step that one block makes (crate `block`, specs/Fips.antt). The first five words and what stands
+-- behind a message are in the crate `hasher`, specs/Fips.antt and specs/Message.antt.
 use Rattle.std.specs.Prelude.{ℕ, List, ◌++◌, length}
 use Rattle.block.specs.Fips.{compress}
 use Rattle.block.specs.Message.{after_all}

@@ -7,6 +7,7 @@ ghost use Rattle.digest.specs.Fips.{sha1_of};
 use hasher::Hasher;
 
 // The digest of a message.
+#[tactic(auto, using(crate::proofs::Laws::of_finished), unfolding(hasher::specs::State::hasher_of))]
 pub fn sha1(s: &[u8]) -> [u8; 20]
     ensures { result ≡ sha1_of s.now }
 {

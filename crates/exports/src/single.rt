@@ -1,10 +1,11 @@
 // Questions on one file, and on a digest and a name. A file's record is what `jampreso_file_open` answered, passed back.
 ghost use Rattle.std.specs.Prelude.{◌≡◌, length};
+ghost use Rattle.types.specs.Refusals.{refused_at};
 ghost use Rattle.digest.specs.Fips.{sha1_of};
 ghost use Rattle.chunk.specs.Index.{nth_of};
 ghost use Rattle.name.specs.Names.{name_of};
 ghost use Rattle.file.specs.Table.{opening};
-ghost use Rattle.access.specs.Lookup.{asking, lookup_of};
+ghost use Rattle.access.specs.Lookup.{lookup_of};
 ghost use Rattle.commit.specs.Commits.{commit_at};
 ghost use Rattle.steps.specs.Said.{phase_of};
 ghost use Rattle.parents.specs.Walks.{step_of, total_of};
@@ -33,18 +34,13 @@ use chunk::nth;
 use commit::commit_at;
 use digest::sha1;
 use file::init::open;
-use flat::answers::{asked_flat, found_in_flat};
-use flat::commits::commit_flat;
-use flat::parts::{entry_flat, mark_flat, trailer_flat};
-use flat::records::{file_of, opened_flat};
-use flat::verdicts::traversal_flat;
-use flat::walks::{stepped_flat, total_flat};
+use flat::records::file_of;
 use flat::{
     Asked, Commit, Digest, Entry, Found, Name, Opened, Part, Record, Step, Total, Trailer,
     Traversal,
 };
 use marks::{date_at, entry_at, trailer, word_at};
-use name::read;
+use name::{Name as Named, read};
 use parents::listing::list_at;
 use parents::{count_at, step_at};
 use places::{base_part, chunk_part, id_part, sum_part, tree_part};
@@ -67,9 +63,12 @@ pub extern "C" fn jampreso_sha1(s: &[u8]) -> Digest
 pub extern "C" fn jampreso_name(name: &[u8]) -> Name
     ensures { result ≡ flat_name (name_of name.now) }
 {
-    let n = read(name);
-    let hash = n.hash;
-    Name { kind: n.kind, hash }
+    let (kind, hash) = match read(name) {
+        Named::Other => (0, [0; 20]),
+        Named::Claims(hash) => (1, hash),
+        Named::Hashless => (2, [0; 20]),
+    };
+    Name { kind, hash }
 }
 
 // The chunk of a file with an id, where the index is sound; no bytes at 0 where it is absent.
@@ -85,7 +84,7 @@ pub extern "C" fn jampreso_chunk(s: &[u8], id: u32) -> Part
 pub extern "C" fn jampreso_entry(s: &[u8], k: u32) -> Entry
     ensures { result ≡ flat_entry (nth_of s.now k) }
 {
-    entry_flat(nth(s, k))
+    nth(s, k).into()
 }
 
 // The trailer of any bytes of a file's size, and whether it is the SHA-1 of those before it.
@@ -93,16 +92,17 @@ pub extern "C" fn jampreso_entry(s: &[u8], k: u32) -> Entry
 pub extern "C" fn jampreso_trailer(s: &[u8]) -> Trailer
     ensures { result ≡ flat_trailer (check_of s.now) }
 {
-    trailer_flat(trailer(s))
+    trailer(s).into()
 }
 
 // Opens one file.
+#[tactic(auto, using(flat::proofs::Backs::returned))]
 #[unsafe(no_mangle)]
 pub extern "C" fn jampreso_file_open(s: &[u8]) -> Opened
     ensures is { result ≡ flat_opened (opening s.now) }
     ensures back { Returns s.now result }
 {
-    opened_flat(open(s))
+    open(s).into()
 }
 
 // The id of a commit.
@@ -140,9 +140,9 @@ pub extern "C" fn jampreso_file_checksum(s: &[u8], f: Record) -> Part
 // Whether the trailer is the SHA-1.
 #[unsafe(no_mangle)]
 pub extern "C" fn jampreso_file_verify_checksum(s: &[u8], f: Record) -> Asked
-    ensures { result ≡ flat_asked (asking (checksum_rule s.now (file_of f))) }
+    ensures { result ≡ flat_asked (refused_at (checksum_rule s.now (file_of f)) 0) }
 {
-    asked_flat(verify_checksum(s, file_of(f)))
+    verify_checksum(s, file_of(f)).into()
 }
 
 // The position of an id.
@@ -150,7 +150,7 @@ pub extern "C" fn jampreso_file_verify_checksum(s: &[u8], f: Record) -> Asked
 pub extern "C" fn jampreso_file_lookup(s: &[u8], f: Record, id: &[u8]) -> Found
     ensures { result ≡ flat_found_in (lookup_of s.now (file_of f) id.now) }
 {
-    found_in_flat(lookup(s, file_of(f), id))
+    lookup(s, file_of(f), id).into()
 }
 
 // A commit.
@@ -158,16 +158,17 @@ pub extern "C" fn jampreso_file_lookup(s: &[u8], f: Record, id: &[u8]) -> Found
 pub extern "C" fn jampreso_file_commit(s: &[u8], f: Record, pos: u32) -> Commit
     ensures { result ≡ flat_commit (commit_at s.now (file_of f) pos) }
 {
-    commit_flat(commit_at(s, file_of(f), Position(pos)))
+    commit_at(s, file_of(f), Position(pos)).into()
 }
 
 // One step over the parents of a commit. Its phase, passed back, goes on from there.
+#[tactic(auto, using(flat::proofs::Backs::stepped))]
 #[unsafe(no_mangle)]
 pub extern "C" fn jampreso_file_step(s: &[u8], f: Record, pos: u32, phase: u32, edge: usize) -> Step
     ensures is { result ≡ flat_stepped (step_of s.now (file_of f) pos (phase_of phase edge)) }
     ensures next { phase_of result.phase result.edge ≡ (step_of s.now (file_of f) pos (phase_of phase edge)).next }
 {
-    stepped_flat(step_at(s, file_of(f), Position(pos), phase_of(phase, edge)))
+    step_at(s, file_of(f), Position(pos), phase_of(phase, edge)).into()
 }
 
 // The word that holds the parent which a step answers; no bytes at 0 where it answers the end.
@@ -175,7 +176,7 @@ pub extern "C" fn jampreso_file_step(s: &[u8], f: Record, pos: u32, phase: u32, 
 pub extern "C" fn jampreso_file_word(s: &[u8], f: Record, pos: u32, phase: u32, edge: usize) -> Part
     ensures { result ≡ flat_mark (word_of s.now (file_of f) pos (phase_of phase edge)) }
 {
-    mark_flat(word_at(s, file_of(f), Position(pos), phase_of(phase, edge)))
+    word_at(s, file_of(f), Position(pos), phase_of(phase, edge)).into()
 }
 
 // The bytes that hold a commit's generation and time.
@@ -183,7 +184,7 @@ pub extern "C" fn jampreso_file_word(s: &[u8], f: Record, pos: u32, phase: u32, 
 pub extern "C" fn jampreso_file_date(s: &[u8], f: Record, pos: u32) -> Part
     ensures { result ≡ flat_mark (date_of s.now (file_of f) pos) }
 {
-    mark_flat(date_at(s, file_of(f), Position(pos)))
+    date_at(s, file_of(f), Position(pos)).into()
 }
 
 // Which of 64 to 67 a commit meets.
@@ -191,7 +192,7 @@ pub extern "C" fn jampreso_file_date(s: &[u8], f: Record, pos: u32) -> Part
 pub extern "C" fn jampreso_file_entry(s: &[u8], f: Record, pos: u32) -> Asked
     ensures { result ≡ flat_asked (entry_of s.now (file_of f) pos) }
 {
-    asked_flat(entry_at(s, file_of(f), Position(pos)))
+    entry_at(s, file_of(f), Position(pos)).into()
 }
 
 // How many parents a commit has.
@@ -199,7 +200,7 @@ pub extern "C" fn jampreso_file_entry(s: &[u8], f: Record, pos: u32) -> Asked
 pub extern "C" fn jampreso_file_count(s: &[u8], f: Record, pos: u32) -> Total
     ensures { result ≡ flat_total (total_of s.now (file_of f) pos) }
 {
-    total_flat(count_at(s, file_of(f), Position(pos)))
+    count_at(s, file_of(f), Position(pos)).into()
 }
 
 // The parents of a commit into `out`, and how many.
@@ -208,7 +209,7 @@ pub extern "C" fn jampreso_file_list(s: &[u8], f: Record, pos: u32, out: &mut [u
     ensures answer { result ≡ flat_total (list_of s.now (file_of f) pos (length out.old)) }
     ensures holds { out.new ≡ held_of s.now (file_of f) pos out.old }
 {
-    total_flat(list_at(s, file_of(f), Position(pos), out))
+    list_at(s, file_of(f), Position(pos), out).into()
 }
 
 // Verifies the one file of a chain and says what its commits add up to.
@@ -216,5 +217,5 @@ pub extern "C" fn jampreso_file_list(s: &[u8], f: Record, pos: u32, out: &mut [u
 pub extern "C" fn jampreso_file_traverse(s: &[u8], list: &[u8]) -> Traversal
     ensures { result ≡ flat_traversal (traversal 32 s.now list.now) }
 {
-    traversal_flat(traverse(s, list))
+    traverse(s, list).into()
 }

@@ -21,10 +21,7 @@ ghost use Rattle.flat.specs.Images.{
 
 use ask::lookup::find;
 use ask::positions::commit_at;
-use flat::answers::{found_flat, located_flat, opening_flat};
-use flat::commits::commit_flat;
-use flat::verdicts::verification_flat;
-use flat::walks::{total_flat, walk_at, walked_flat};
+use flat::walks::walk_at;
 use flat::{Commit, Found, Opening, Part, Spot, Step, Total, Verification};
 use graph::init::open;
 use graph::locate::locate;
@@ -39,7 +36,7 @@ use walk::through_door;
 pub extern "C" fn jampreso_open(chain: &[u8], list: &[u8]) -> Opening
     ensures { result ≡ flat_opening (opening_of 32 chain.now list.now) }
 {
-    opening_flat(open(chain, list))
+    open(chain, list).into()
 }
 
 // Where a position stands: its file's index, where that starts in the chain and how long it is, and the position in it.
@@ -47,7 +44,7 @@ pub extern "C" fn jampreso_open(chain: &[u8], list: &[u8]) -> Opening
 pub extern "C" fn jampreso_locate(chain: &[u8], list: &[u8], pos: u32) -> Spot
     ensures { result ≡ flat_located (located 32 chain.now list.now pos) }
 {
-    located_flat(locate(chain, list, Position(pos)))
+    locate(chain, list, Position(pos)).into()
 }
 
 // The id at a position: the part of the chain that stores it.
@@ -71,7 +68,7 @@ pub extern "C" fn jampreso_tree(chain: &[u8], list: &[u8], pos: u32) -> Part
 pub extern "C" fn jampreso_find(chain: &[u8], list: &[u8], id: &[u8]) -> Found
     ensures { result ≡ flat_found (lookup_of 32 chain.now list.now id.now) }
 {
-    found_flat(find(chain, list, id))
+    find(chain, list, id).into()
 }
 
 // The commit at a position.
@@ -79,10 +76,11 @@ pub extern "C" fn jampreso_find(chain: &[u8], list: &[u8], id: &[u8]) -> Found
 pub extern "C" fn jampreso_commit(chain: &[u8], list: &[u8], pos: u32) -> Commit
     ensures { result ≡ flat_commit (commit_of 32 chain.now list.now pos) }
 {
-    commit_flat(commit_at(chain, list, Position(pos)))
+    commit_at(chain, list, Position(pos)).into()
 }
 
 // One step over the parents of the commit at a position. Its phase, passed back, goes on from there.
+#[tactic(auto, using(flat::proofs::Backs::walked))]
 #[unsafe(no_mangle)]
 pub extern "C" fn jampreso_step(
     chain: &[u8],
@@ -94,10 +92,11 @@ pub extern "C" fn jampreso_step(
     ensures is { result ≡ flat_walked (step_of 32 chain.now list.now (walk_of pos phase edge)) }
     ensures next { walk_of pos result.phase result.edge ≡ (step_of 32 chain.now list.now (walk_of pos phase edge)).next }
 {
-    walked_flat(walk_at(pos, phase, edge).step(chain, list))
+    walk_at(pos, phase, edge).step(chain, list).into()
 }
 
 // The same through the walk that is changed in place.
+#[tactic(auto, using(flat::proofs::Backs::walked))]
 #[unsafe(no_mangle)]
 pub extern "C" fn jampreso_door(
     chain: &[u8],
@@ -109,7 +108,7 @@ pub extern "C" fn jampreso_door(
     ensures is { result ≡ flat_walked (step_of 32 chain.now list.now (walk_of pos phase edge)) }
     ensures next { walk_of pos result.phase result.edge ≡ (step_of 32 chain.now list.now (walk_of pos phase edge)).next }
 {
-    walked_flat(through_door(walk_at(pos, phase, edge), chain, list))
+    through_door(walk_at(pos, phase, edge), chain, list).into()
 }
 
 // The parents of the commit at a position into `out`, and how many.
@@ -118,7 +117,7 @@ pub extern "C" fn jampreso_list(chain: &[u8], list: &[u8], pos: u32, out: &mut [
     ensures answer { result ≡ flat_total (list_of 32 chain.now list.now pos (length out.old)) }
     ensures holds { out.new ≡ held_of 32 chain.now list.now pos out.old }
 {
-    total_flat(list_at(chain, list, Position(pos), out))
+    list_at(chain, list, Position(pos), out).into()
 }
 
 // Verifies a chain.
@@ -126,5 +125,5 @@ pub extern "C" fn jampreso_list(chain: &[u8], list: &[u8], pos: u32, out: &mut [
 pub extern "C" fn jampreso_verify(chain: &[u8], list: &[u8]) -> Verification
     ensures { result ≡ flat_verification (verification 32 chain.now list.now) }
 {
-    verification_flat(verify(chain, list))
+    verify(chain, list).into()
 }

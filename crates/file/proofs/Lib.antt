@@ -1,4 +1,3 @@
-pub mod Fan
 pub mod Stages
 pub mod Saying
 pub mod Results

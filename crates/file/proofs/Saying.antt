@@ -1,16 +1,12 @@
 -- What each answer says tells its cases and their values apart: a way back for each image.
-use Prim.Native.Nat.{ℕ}
-use mathlib.Core.List.{List, [], ◌∷◌}
-use mathlib.Core.Path.{◌≡◌, refl, ap}
-use lib.ListN.{get_or, drop}
+use Rattle.std.proofs.Common.{ℕ, List, [], ◌∷◌, ◌≡◌, ap, get_or, drop, Result, Ok, Err}
+use Rattle.std.specs.Prelude.{Option}
 use Rattle.types.specs.Said.{Said}
 use Rattle.types.specs.declared.refusal.Refusal.{Refusal}
-use Rattle.types.proofs.Saying.{Back, refusal_of}
+use Rattle.types.proofs.Saying.{Back, refusal_of, refusal_back}
 use Rattle.file.specs.Said.{record_said, opening_said}
 use Rattle.file.specs.declared.File.{File}
-use Rattle.file.specs.declared.Opening.{Opening}
-use Rattle.file.specs.declared.Opening.TheVariants.{Open, Refused}
-use Rattle.chunk.specs.declared.Chunk.{Chunk}
+use Rattle.chunk.specs.declared.Span.{Span}
 use Rattle.chunk.proofs.Saying.{chunk_from, chunk_again}
 
 -- the record again, from its number of commits and its other values
@@ -29,7 +25,7 @@ record_from n vs =
 
 pub record_again : (f : File) → record_from f.commits (record_said f) ≡ f
 record_again f =
-    ap (λ (c : Chunk).
+    ap (λ (c : Option Span).
     record {
       commits = f.commits;
       bases = f.bases;
@@ -41,17 +37,17 @@ record_again f =
       edge = c;
     }) (chunk_again f.edge)
 
-abbrev opening_from : Refusal → List ℕ → Opening
-opening_from r [] = Refused r
-opening_from r (n ∷ vs) = Open (record_from n vs)
+abbrev opening_from : Refusal → List ℕ → Result File Refusal
+opening_from r [] = Err r
+opening_from r (n ∷ vs) = Ok (record_from n vs)
 
-abbrev opening_of_lem : Said → Opening
+abbrev opening_of_lem : Said → Result File Refusal
 opening_of_lem s = opening_from (refusal_of s) s.values
 
-opening_again : (a : Opening) → opening_of_lem (opening_said a) ≡ a
+opening_again : (a : Result File Refusal) → opening_of_lem (opening_said a) ≡ a
 unfolding opening_said
-opening_again (Open f) = ap Open (record_again f)
-opening_again (Refused r) = refl
+opening_again (Ok f) = ap Ok (record_again f)
+opening_again (Err r) = ap Err (refusal_back r)
 
 pub opening_back : Back opening_said
 opening_back = record { of = opening_of_lem; back = opening_again }

@@ -4,8 +4,7 @@
 pub mod init;
 mod rules;
 
-use chunk::Chunk;
-use types::refusal::Refusal;
+use chunk::Span;
 
 // What an opened file says of itself: commits N, bases B, the width of an id, and where its chunks start.
 #[derive(Clone, Copy)]
@@ -16,14 +15,8 @@ pub struct File {
     pub oidf: usize,
     pub oidl: usize,
     pub cdat: usize,
-    pub edge: Chunk,
+    pub edge: Option<Span>,
     pub base: usize,
-}
-
-#[derive(Clone, Copy)]
-pub enum Opening {
-    Open(File),
-    Refused(Refusal),
 }
 
 pub(crate) const SIGNATURE: u32 = 0x4347_5048;

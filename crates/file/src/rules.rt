@@ -1,57 +1,54 @@
-// Opening's refusals as numbers, stage by stage; 0 where a stage refuses nothing.
+// Opening's refusals, stage by stage.
 ghost use Rattle.std.specs.Prelude.{◌≡◌, ◌/◌, ◌%◌, ◌<◌};
-ghost use Rattle.chunk.specs.Index.{size_of};
-ghost use Rattle.file.specs.Table.{header, base_rules, chunk_rules, peak, peak_by, count_rules};
+ghost use Rattle.chunk.specs.Index.{Found, size_of};
+ghost use Rattle.file.specs.Table.{header, base_rules, chunk_rules, peak, count_rules};
 
-use chunk::{Chunk, missing, size};
-use types::refusal::{
-    BASE_COUNT, BASE_MISSING, BASE_SIZE, CDAT_COUNT, CDAT_MISSING, CDAT_SIZE, HASH_VERSION,
-    OIDF_MISSING, OIDF_SIZE, OIDL_COUNT, OIDL_MISSING, OIDL_SIZE, SIGNATURE, TOO_LARGE, TOO_SMALL,
-    TRAILER_SIZE, VERSION,
-};
+use chunk::{Span, missing, size};
+use types::refusal::Reason;
 use words::big::be32;
 
 // The chunks that opening asks for.
 #[derive(Clone, Copy)]
 pub struct Index {
-    pub base: Chunk,
-    pub cdat: Chunk,
-    pub oidf: Chunk,
-    pub oidl: Chunk,
-    pub edge: Chunk,
+    pub base: Option<Span>,
+    pub cdat: Option<Span>,
+    pub oidf: Option<Span>,
+    pub oidl: Option<Span>,
+    pub edge: Option<Span>,
 }
 
 // Refusals 1 to 5.
-pub fn head(s: &[u8]) -> u32
+#[tactic(auto, using(words::proofs::Rows::rows), unfolding(crate::specs::Table::header))]
+pub fn head(s: &[u8]) -> Result<(), Reason>
     ensures { result ≡ header s.now }
 {
     if 1073741824 < s.len() {
-        return TOO_LARGE;
+        return Err(Reason::TooLarge);
     }
     if s.len() < 1100 {
-        return TOO_SMALL;
+        return Err(Reason::TooSmall);
     }
     if be32(s, 0) != super::SIGNATURE {
-        return SIGNATURE;
+        return Err(Reason::Signature);
     }
     if s[4] != 1 {
-        return VERSION;
+        return Err(Reason::Version);
     }
     if s[5] != 1 {
-        return HASH_VERSION;
+        return Err(Reason::HashVersion);
     }
-    0
+    Ok(())
 }
 
 // How many records of `w` bytes a chunk holds, and how many bytes are left over.
-fn records(c: Chunk, w: usize) -> usize
+fn records(c: Option<Span>, w: usize) -> usize
     requires { 0 < w }
     ensures { result ≡ size_of c / w }
 {
     size(c) / w
 }
 
-fn over(c: Chunk, w: usize) -> usize
+fn over(c: Option<Span>, w: usize) -> usize
     requires { 0 < w }
     ensures { result ≡ size_of c % w }
 {
@@ -59,99 +56,83 @@ fn over(c: Chunk, w: usize) -> usize
 }
 
 // Refusals 10 and 11: of the BASE chunk, where B is `b`.
-pub(crate) fn base_rules(w: usize, b: usize, c: Chunk) -> u32
+#[tactic(auto, using(words::proofs::Rows::rows), unfolding(crate::specs::Table::base_rules))]
+pub(crate) fn base_rules(w: usize, b: usize, c: Option<Span>) -> Result<(), Reason>
     requires { 0 < w }
     ensures { result ≡ base_rules w b c }
 {
     if missing(c) {
-        return 0;
+        return Ok(());
     }
     if over(c, w) != 0 {
-        return BASE_SIZE;
+        return Err(Reason::BaseSize);
     }
     if records(c, w) != b {
-        return BASE_COUNT;
+        return Err(Reason::BaseCount);
     }
-    0
+    Ok(())
 }
 
 // Refusals 12 to 19, where B is `b` and `rest` bytes stand after the chunks.
-pub(crate) fn chunk_rules(w: usize, b: usize, rest: usize, x: Index) -> u32
+#[tactic(auto, using(words::proofs::Rows::rows), unfolding(crate::specs::Table::chunk_rules))]
+pub(crate) fn chunk_rules(w: usize, b: usize, rest: usize, x: Index) -> Result<(), Reason>
     requires { (0 < w) × (w < 1000) }
     ensures { result ≡ chunk_rules w b rest x }
 {
-    let cdat = x.cdat;
-    let oidf = x.oidf;
-    let oidl = x.oidl;
-    let base = x.base;
-    if missing(cdat) {
-        return CDAT_MISSING;
+    if missing(x.cdat) {
+        return Err(Reason::CdatMissing);
     }
-    if over(cdat, w + 16) != 0 {
-        return CDAT_SIZE;
+    if over(x.cdat, w + 16) != 0 {
+        return Err(Reason::CdatSize);
     }
-    if missing(oidf) {
-        return OIDF_MISSING;
+    if missing(x.oidf) {
+        return Err(Reason::OidfMissing);
     }
-    if size(oidf) != 1024 {
-        return OIDF_SIZE;
+    if size(x.oidf) != 1024 {
+        return Err(Reason::OidfSize);
     }
-    if missing(oidl) {
-        return OIDL_MISSING;
+    if missing(x.oidl) {
+        return Err(Reason::OidlMissing);
     }
-    if over(oidl, w) != 0 {
-        return OIDL_SIZE;
+    if over(x.oidl, w) != 0 {
+        return Err(Reason::OidlSize);
     }
     if rest != w {
-        return TRAILER_SIZE;
+        return Err(Reason::TrailerSize);
     }
-    if missing(base) {
-        if 0 < b {
-            return BASE_MISSING;
-        }
+    if missing(x.base) && 0 < b {
+        return Err(Reason::BaseMissing);
     }
-    0
+    Ok(())
 }
 
-// The first of the 255 fan entries that is above the next, or 255.
-fn fan(p: &[u8]) -> usize
-    ensures { result ≡ peak p.now }
+// The first of the 255 fan entries that is above the next.
+#[tactic(auto, using(words::proofs::Searches::searching), unfolding(crate::specs::Table::peak, crate::specs::Table::falls))]
+pub(crate) fn fan(p: &[u8]) -> Option<usize>
+    ensures { Found 255 (peak p.now) result }
 {
     let mut last = be32(p, 0);
-    let mut i = 0;
-    while i < 255 {
+    for i in 0..255 {
         let next = be32(p, 4 * (i + 1));
         if next < last {
-            return i;
+            return Some(i);
         }
         last = next;
-        i += 1;
     }
-    i
-}
-
-// The same, or 255 where refusal 20 is not tried.
-pub fn fan_by(p: &[u8], tried: bool) -> usize
-    ensures { result ≡ peak_by tried p.now }
-{
-    if tried {
-        return fan(p);
-    }
-    255
+    None
 }
 
 // Refusals 21 and 22, where N is `n`.
-pub(crate) fn count_rules(w: usize, n: usize, x: Index) -> u32
+#[tactic(auto, using(words::proofs::Rows::rows), unfolding(crate::specs::Table::count_rules))]
+pub(crate) fn count_rules(w: usize, n: usize, x: Index) -> Result<(), Reason>
     requires { (0 < w) × (w < 1000) }
     ensures { result ≡ count_rules w n x }
 {
-    let oidl = x.oidl;
-    let cdat = x.cdat;
-    if records(oidl, w) != n {
-        return OIDL_COUNT;
+    if records(x.oidl, w) != n {
+        return Err(Reason::OidlCount);
     }
-    if records(cdat, w + 16) != n {
-        return CDAT_COUNT;
+    if records(x.cdat, w + 16) != n {
+        return Err(Reason::CdatCount);
     }
-    0
+    Ok(())
 }

@@ -1,3 +1,4 @@
 pub mod Fitting
 pub mod Opens
+pub mod Same
 pub mod Results

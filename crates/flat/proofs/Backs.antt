@@ -1,29 +1,19 @@
 -- What is passed back is what was handed out: a file's record, and the phase of a walk.
-use Prim.Native.Nat.{ℕ, ◌+◌, ◌-◌, ◌^◌, ◌≤◌, ◌<◌}
-use mathlib.Core.List.{List}
-use mathlib.Core.Bool.{Bool, true, false}
-use mathlib.Core.Path.{◌≡◌, refl, sym, ap, ap₂, ◌∙◌}
-use native.Mathlib.Omega.{arith}
-use native.Mathlib.Nat.{mod-eq_of_lt}
-use lib.Dec.{leb}
-use lib.ListN.{length}
-use borrow.Author.Tests.{le-leb, lt-leb, leb-false}
+use Rattle.std.proofs.Common.{ℕ, ◌+◌, ◌-◌, ◌^◌, ◌≤◌, ◌<◌, List, Bool, true, false, Result, Ok, Err, ◌≡◌, refl, sym, ap, ap₂, ◌∙◌, arith, mod-eq_of_lt}
+use Rattle.std.proofs.Common.{leb, length, leb-false}
+use Rattle.std.specs.Prelude.{Option, Some, None}
 use Rattle.words.specs.Big.{Bytes}
-use Rattle.words.specs.First.{◌if◌else◌, first}
-use Rattle.words.proofs.Rows.{hit, miss}
+use Rattle.words.specs.First.{◌if◌else◌, fine, first}
 use Rattle.chunk.specs.Index.{chunks, off_at, is_at, index_rule, chunk_at, chunk_of, start_of, size_of, Indexed}
 use Rattle.chunk.specs.declared.Span.{Span}
-use Rattle.chunk.specs.declared.Chunk.{Chunk}
-use Rattle.chunk.specs.declared.Chunk.TheVariants.{At, Absent}
 use Rattle.chunk.proofs.Sound.{indexed}
 use Rattle.file.specs.Table.{index_of, file_of as filed, fanned, chunked, opening_by, opening}
 use Rattle.fit.specs.Facts.{Opened}
 use Rattle.file.specs.declared.File.{File}
-use Rattle.file.specs.declared.Opening.TheVariants.{Open}
 use Rattle.fit.proofs.Opens.{opens, opened as gives}
 use Rattle.steps.specs.declared.Phase.{Phase}
-use Rattle.parents.specs.declared.Answer.{Answer}
-use Rattle.parents.specs.declared.Answer.TheVariants.{Parent, Refused, End}
+use Rattle.types.specs.declared.refusal.Refusal.{Refusal}
+use Rattle.steps.specs.declared.Parent.{Parent}
 use Rattle.types.specs.declared.graph.Position.{Position}
 use Rattle.parents.specs.declared.Step.{Step as Stepped}
 use Rattle.walk.specs.Walks.{step_of}
@@ -38,27 +28,18 @@ use Rattle.flat.specs.Records.{end_of, edge_of, file_of, present_in, record_of, 
 
 -- ── a record ──
 
--- where a chunk ends
-module _ (start size : ℕ) where
-  pub end_past : 2 ^ 64 - 1 - start < size → start < 2 ^ 64 → 2 ^ 64 - 1 ≡ end_of start size
-  unfolding end_of
-  end_past h g = miss (start + size) _ _ (2 ^ 64 - 1) (lt-leb (start + size) (2 ^ 64 - 1) (omega arith)) refl
-
-  pub end_fits : start + size < 2 ^ 64 → start + size ≡ end_of start size
-  unfolding end_of
-  end_fits h = hit (start + size) _ _ (le-leb (start + size) (2 ^ 64 - 1) (omega arith))
-
 -- a chunk that does not end before it starts comes back
-Level : Chunk → Type 0
-Level c = (p : Span) → c ≡ At p → (p.start ≤ p.end) × (p.end < 2 ^ 64)
+Level : Option Span → Type 0
+Level c = (p : Span) → c ≡ Some p → (p.start ≤ p.end) × (p.end < 2 ^ 64)
 
-edge_back : (c : Chunk) → Level c → edge_of (present_in c) (start_of c) (size_of c) ≡ c
+end_back : (a b : ℕ) → a ≤ b → b < 2 ^ 64 → end_of a (b - a) ≡ b
+unfolding end_of
+end_back a b h g = omega arith
+
+edge_back : (c : Option Span) → Level c → edge_of (present_in c) (start_of c) (size_of c) ≡ c
 unfolding edge_of ◌if◌else◌ Level
-edge_back Absent h = refl
-edge_back (At p) h =
-    let k = h p refl in
-    let e : end_of p.start (p.end - p.start) ≡ p.end = omega (arith, end_fits p.start (p.end - p.start) (omega arith)) in
-    ap (λ (n : ℕ). At (record { start = p.start; end = n })) e
+edge_back None h = refl
+edge_back (Some p) h = let k = h p refl in ap (λ (n : ℕ). Some (record { start = p.start; end = n })) (end_back p.start p.end k.0 k.1)
 
 -- the chunks of a sound index do
 level : {l : List ℕ} (x : ℕ) → Indexed l → length l ≤ 1073741824 → Level (chunk_of l x)
@@ -66,8 +47,8 @@ unfolding chunk_of ◌if◌else◌ chunk_at Level
 level {l} x i m = go _ refl
   where
     go : (t : Bool) → leb (chunks l) (first (is_at l x) 0 (chunks l)) ≡ t
-        → Level (Absent if t else chunk_at l (first (is_at l x) 0 (chunks l)))
-    go true d p e = let z : ◌≡◌ {A = ℕ} 0 1 = cc in absurd (omega arith)
+        → Level (None if t else chunk_at l (first (is_at l x) 0 (chunks l)))
+    go true d p e = absurd (cc)
     go false d p e =
         let k : ℕ = first (is_at l x) 0 (chunks l) in
         let g : k < chunks l = leb-false (chunks l) k d in
@@ -78,7 +59,7 @@ level {l} x i m = go _ refl
         (omega arith, omega arith)
 
 -- what an opened file keeps of its EDGE chunk
-edge_kept : (l : List ℕ) {f : File} → opening l ≡ Open f → (index_rule l ≡ 0) × (chunk_of l 0x45444745 ≡ f.edge)
+edge_kept : (l : List ℕ) {f : File} → opening l ≡ Ok f → (index_rule l ≡ fine) × (chunk_of l 0x45444745 ≡ f.edge)
 unfolding opening_by chunked fanned filed index_of
 edge_kept l {f} o =
     let o1 = opens _ _ _ o in
@@ -89,17 +70,17 @@ edge_kept l {f} o =
     let o6 = opens _ _ _ o5.1 in
     (o2.0, edge_of_open o6.1)
   where
-    edge_of_open : {a : File} → Open a ≡ Open f → a.edge ≡ f.edge
+    edge_of_open : {a : File} → ◌≡◌ {A = Result File Refusal} (Ok a) (Ok f) → a.edge ≡ f.edge
     edge_of_open {a} e = let z : a ≡ f = cc in ap (λ (x : File). x.edge) z
 
-file_back_lem : (l : List ℕ) {f : File} → Bytes l → opening l ≡ Open f → file_of (record_of f) ≡ f
+file_back_lem : (l : List ℕ) {f : File} → Bytes l → opening l ≡ Ok f → file_of (record_of f) ≡ f
 unfolding file_of record_of Level
 file_back_lem l {f} b o =
     let k = edge_kept l o in
     let q : Opened l f = gives true l o in
     let n : f.bases < 256 = omega (arith, q.bases, b 7) in
     let h : Level f.edge = rw (← k.1) (level 0x45444745 (indexed l k.0) q.most) in
-    ap₂ (λ (n : ℕ) (c : Chunk). record {
+    ap₂ (λ (n : ℕ) (c : Option Span). record {
       commits = f.commits;
       bases = n;
       width = f.width;
@@ -111,18 +92,18 @@ file_back_lem l {f} b o =
     }) (mod-eq_of_lt n) (edge_back f.edge h)
 
 -- what opening ensures of its record
-pub opened : (l : List ℕ) {r : Handed} → Bytes l → r ≡ flat_opened (opening l) → (r ≡ flat_opened (opening l)) × Returns l r
+pub returned : (l : List ℕ) {r : Handed} → Bytes l → r ≡ flat_opened (opening l) → Returns l r
 unfolding flat_opened
-opened l b e = (e, λ f o. ap (λ (x : Handed). file_of x.«record») (e ∙ ap flat_opened o) ∙ file_back_lem l b o)
+returned l b e f o = ap (λ (x : Handed). file_of x.«record») (e ∙ ap flat_opened o) ∙ file_back_lem l b o
 
 -- ── a phase ──
 
 -- what a step hands out, passed back, is the phase after it
-pub step_back : (a : Answer) (s : Phase) → phase_of (flat_step a s).phase (flat_step a s).edge ≡ s
+pub step_back : (a : Result (Option Parent) Refusal) (s : Phase) → phase_of (flat_step a s).phase (flat_step a s).edge ≡ s
 unfolding flat_step
-step_back (Parent p) s = phase_again s
-step_back (Refused r) s = phase_again s
-step_back End s = phase_again s
+step_back (Ok (Some p)) s = phase_again s
+step_back (Err r) s = phase_again s
+step_back (Ok None) s = phase_again s
 
 -- and so on a chain, where the walk keeps its commit
 pub walk_back : (z : ℕ) (c l : List ℕ) (w : Walk)
@@ -132,9 +113,8 @@ walk_back z c l w =
     (sym (keeps z c l w).commit) (step_back (step_of z c l w).answer _)
 
 -- what a step ensures, from its equation
-pub stepped : (x : Stepped) {r : Step} → r ≡ flat_stepped x → (r ≡ flat_stepped x) × (phase_of r.phase r.edge ≡ x.next)
-stepped x e = (e, ap (λ (y : Step). phase_of y.phase y.edge) e ∙ step_back x.answer x.next)
+pub stepped : (x : Stepped) {r : Step} → r ≡ flat_stepped x → phase_of r.phase r.edge ≡ x.next
+stepped x e = ap (λ (y : Step). phase_of y.phase y.edge) e ∙ step_back x.answer x.next
 
-pub walked : (z : ℕ) (c l : List ℕ) (w : Walk) {r : Step} → r ≡ flat_walked (step_of z c l w)
-    → (r ≡ flat_walked (step_of z c l w)) × (walk_of w.commit.0 r.phase r.edge ≡ (step_of z c l w).next)
-walked z c l w e = (e, ap (λ (y : Step). walk_of w.commit.0 y.phase y.edge) e ∙ walk_back z c l w)
+pub walked : (z : ℕ) (c l : List ℕ) (w : Walk) {r : Step} → r ≡ flat_walked (step_of z c l w) → walk_of w.commit.0 r.phase r.edge ≡ (step_of z c l w).next
+walked z c l w e = ap (λ (y : Step). walk_of w.commit.0 y.phase y.edge) e ∙ walk_back z c l w

@@ -1,133 +1,113 @@
 // Positions, and whether a question was refused.
+#![tactic(auto, unfolding(crate::specs::Images::flat_asked, crate::specs::Images::flat_opening, crate::specs::Images::flat_located, crate::specs::Images::flat_found, crate::specs::Images::flat_found_in))]
+
 ghost use Rattle.std.specs.Prelude.{◌≡◌};
 ghost use Rattle.flat.specs.Images.{flat_asked, flat_opening, flat_located, flat_found, flat_found_in};
 
 use super::{Asked, Found, Opening, Spot};
-use access::Asking;
-use graph::locate::Located;
+use graph::locate::Spot as Stands;
+use types::file::Position as FilePosition;
+use types::graph::Position;
+use types::refusal::Refusal;
 
 // Whether a question was refused.
-pub fn asked_flat(a: Asking) -> Asked
-    ensures { result ≡ flat_asked a }
-{
-    match a {
-        Asking::Fine => Asked {
-            place: 0,
-            number: 0,
-            file: 0,
-        },
-        Asking::Refused(r) => Asked {
-            place: r.place,
-            number: r.number,
-            file: r.file,
-        },
+impl From<Result<(), Refusal>> for Asked {
+    ghost from_gives = { λ answer r. r ≡ flat_asked answer };
+
+    fn from(answer: Result<(), Refusal>) -> Asked {
+        match answer {
+            Ok(()) => Asked::default(),
+            Err(r) => Asked {
+                place: r.place,
+                number: r.reason.number(),
+                file: r.file,
+            },
+        }
     }
 }
 
 // A chain's commits, or the refusal in their place.
-pub fn opening_flat(o: graph::init::Opening) -> Opening
-    ensures { result ≡ flat_opening o }
-{
-    match o {
-        graph::init::Opening::Open(n) => Opening {
-            place: 0,
-            number: 0,
-            file: 0,
-            commits: n,
-            spare: 0,
-        },
-        graph::init::Opening::Refused(r) => Opening {
-            place: r.place,
-            number: r.number,
-            file: r.file,
-            commits: 0,
-            spare: 0,
-        },
+impl From<Result<u32, Refusal>> for Opening {
+    ghost from_gives = { λ answer r. r ≡ flat_opening answer };
+
+    fn from(answer: Result<u32, Refusal>) -> Opening {
+        match answer {
+            Ok(commits) => Opening {
+                commits,
+                ..Opening::default()
+            },
+            Err(r) => Opening {
+                place: r.place,
+                number: r.reason.number(),
+                file: r.file,
+                ..Opening::default()
+            },
+        }
     }
 }
 
 // Where a position stands.
-pub fn located_flat(y: Located) -> Spot
-    ensures { result ≡ flat_located y }
-{
-    match y {
-        Located::At(s) => {
-            let at = s.pos;
-            Spot {
-                start: s.start,
-                size: s.size,
-                place: 0,
-                number: 0,
-                file: 0,
-                index: s.file,
-                pos: at.0,
-            }
+impl From<Result<Stands, Refusal>> for Spot {
+    ghost from_gives = { λ answer r. r ≡ flat_located answer };
+
+    fn from(answer: Result<Stands, Refusal>) -> Spot {
+        match answer {
+            Ok(spot) => Spot {
+                start: spot.start,
+                size: spot.size,
+                index: spot.file,
+                pos: spot.pos.0,
+                ..Spot::default()
+            },
+            Err(r) => Spot {
+                place: r.place,
+                number: r.reason.number(),
+                file: r.file,
+                ..Spot::default()
+            },
         }
-        Located::Refused(r) => Spot {
-            start: 0,
-            size: 0,
-            place: r.place,
-            number: r.number,
-            file: r.file,
-            index: 0,
-            pos: 0,
-        },
     }
 }
 
 // The position of an id in a chain, and in a file.
-pub fn found_flat(y: ask::lookup::Found) -> Found
-    ensures { result ≡ flat_found y }
-{
-    match y {
-        ask::lookup::Found::At(p) => Found {
-            place: 0,
-            number: 0,
-            file: 0,
-            found: 1,
-            pos: p.0,
-        },
-        ask::lookup::Found::Absent => Found {
-            place: 0,
-            number: 0,
-            file: 0,
-            found: 0,
-            pos: 0,
-        },
-        ask::lookup::Found::Refused(r) => Found {
-            place: r.place,
-            number: r.number,
-            file: r.file,
-            found: 0,
-            pos: 0,
-        },
+impl From<Result<Option<Position>, Refusal>> for Found {
+    ghost from_gives = { λ answer r. r ≡ flat_found answer };
+
+    fn from(answer: Result<Option<Position>, Refusal>) -> Found {
+        match answer {
+            Ok(Some(p)) => Found {
+                found: 1,
+                pos: p.0,
+                ..Found::default()
+            },
+            Ok(None) => Found::default(),
+            Err(r) => Found {
+                place: r.place,
+                number: r.reason.number(),
+                file: r.file,
+                ..Found::default()
+            },
+        }
     }
 }
 
-pub fn found_in_flat(y: access::Found) -> Found
-    ensures { result ≡ flat_found_in y }
-{
-    match y {
-        access::Found::At(p) => Found {
-            place: 0,
-            number: 0,
-            file: 0,
-            found: 1,
-            pos: p.0,
-        },
-        access::Found::Absent => Found {
-            place: 0,
-            number: 0,
-            file: 0,
-            found: 0,
-            pos: 0,
-        },
-        access::Found::Refused(r) => Found {
-            place: r.place,
-            number: r.number,
-            file: r.file,
-            found: 0,
-            pos: 0,
-        },
+impl From<Result<Option<FilePosition>, Refusal>> for Found {
+    ghost from_gives = { λ answer r. r ≡ flat_found_in answer };
+
+    fn from(answer: Result<Option<FilePosition>, Refusal>) -> Found {
+        match answer {
+            Ok(Some(p)) => Found {
+                found: 1,
+                pos: p.0,
+                ..Found::default()
+            },
+            Ok(None) => Found::default(),
+            Err(r) => Found {
+                place: r.place,
+                number: r.reason.number(),
+                file: r.file,
+                ..Found::default()
+            },
+        }
     }
 }

@@ -1,10 +1,13 @@
 // A commit.
+#![tactic(auto, unfolding(crate::specs::Images::flat_commit))]
+
 ghost use Rattle.std.specs.Prelude.{◌≡◌};
 ghost use Rattle.commit.specs.Said.{edge_kind, edge_word};
 ghost use Rattle.flat.specs.Images.{flat_commit};
 
 use super::Commit;
-use commit::{Asked, ParentEdge};
+use commit::ParentEdge;
+use types::refusal::Refusal;
 
 fn edge_kind(e: ParentEdge) -> u32
     ensures { result ≡ edge_kind e }
@@ -27,37 +30,26 @@ fn edge_word(e: ParentEdge) -> u32
 }
 
 // A commit, or the refusal in its place.
-pub fn commit_flat(a: Asked) -> Commit
-    ensures { result ≡ flat_commit a }
-{
-    match a {
-        Asked::Commit(c) => {
-            let first = c.first;
-            let second = c.second;
-            Commit {
+impl From<Result<commit::Commit, Refusal>> for Commit {
+    ghost from_gives = { λ answer r. r ≡ flat_commit answer };
+
+    fn from(answer: Result<commit::Commit, Refusal>) -> Commit {
+        match answer {
+            Ok(c) => Commit {
                 time: c.time,
-                place: 0,
-                number: 0,
-                file: 0,
                 generation: c.generation,
-                first_kind: edge_kind(first),
-                first: edge_word(first),
-                second_kind: edge_kind(second),
-                second: edge_word(second),
-                spare: 0,
-            }
+                first_kind: edge_kind(c.first),
+                first: edge_word(c.first),
+                second_kind: edge_kind(c.second),
+                second: edge_word(c.second),
+                ..Commit::default()
+            },
+            Err(r) => Commit {
+                place: r.place,
+                number: r.reason.number(),
+                file: r.file,
+                ..Commit::default()
+            },
         }
-        Asked::Refused(r) => Commit {
-            time: 0,
-            place: r.place,
-            number: r.number,
-            file: r.file,
-            generation: 0,
-            first_kind: 0,
-            first: 0,
-            second_kind: 0,
-            second: 0,
-            spare: 0,
-        },
     }
 }

@@ -1,4 +1,4 @@
-// Each answer of the library as the numbers that cross to C and Rust: the structs, and the functions that make them.
+// Each answer of the library as the numbers that cross to C and Rust: the structs, and the conversions that make them.
 // `number`, `file` and `place` are the refusal's, 0 where there is none; where there is one, every other number is 0, but a step's phase.
 // `spare` is 0: it fills a struct up to a multiple of 8 bytes.
 #![tactic(auto)]
@@ -25,7 +25,7 @@ pub struct Name {
 
 // What an opened file says of itself: where its chunks start, its commits and bases, and, where `has_edge` is not 0, its EDGE chunk.
 #[repr(C)]
-#[derive(Clone, Copy)]
+#[derive(Clone, Copy, Default)]
 pub struct Record {
     pub width: usize,
     pub oidf: usize,
@@ -41,7 +41,7 @@ pub struct Record {
 }
 
 #[repr(C)]
-#[derive(Clone, Copy)]
+#[derive(Clone, Copy, Default)]
 pub struct Opened {
     pub record: Record,
     pub place: u64,
@@ -50,7 +50,7 @@ pub struct Opened {
 }
 
 #[repr(C)]
-#[derive(Clone, Copy)]
+#[derive(Clone, Copy, Default)]
 pub struct Asked {
     pub place: u64,
     pub number: u32,
@@ -59,7 +59,7 @@ pub struct Asked {
 
 // The `size` bytes from `at` on.
 #[repr(C)]
-#[derive(Clone, Copy)]
+#[derive(Clone, Copy, Default)]
 pub struct Part {
     pub at: usize,
     pub size: usize,
@@ -70,7 +70,7 @@ pub struct Part {
 
 // Where the trailer stands; `right` is 1 where it is the SHA-1 of all bytes before it.
 #[repr(C)]
-#[derive(Clone, Copy)]
+#[derive(Clone, Copy, Default)]
 pub struct Trailer {
     pub at: usize,
     pub size: usize,
@@ -83,7 +83,7 @@ pub struct Trailer {
 
 // An entry of a file's index: the chunk's id, and its bytes.
 #[repr(C)]
-#[derive(Clone, Copy)]
+#[derive(Clone, Copy, Default)]
 pub struct Entry {
     pub at: usize,
     pub size: usize,
@@ -95,7 +95,7 @@ pub struct Entry {
 }
 
 #[repr(C)]
-#[derive(Clone, Copy)]
+#[derive(Clone, Copy, Default)]
 pub struct Opening {
     pub place: u64,
     pub number: u32,
@@ -106,7 +106,7 @@ pub struct Opening {
 
 // File `index` has the position, at `pos` there; it is the `size` bytes of the chain from `start` on.
 #[repr(C)]
-#[derive(Clone, Copy)]
+#[derive(Clone, Copy, Default)]
 pub struct Spot {
     pub start: usize,
     pub size: usize,
@@ -118,7 +118,7 @@ pub struct Spot {
 }
 
 #[repr(C)]
-#[derive(Clone, Copy)]
+#[derive(Clone, Copy, Default)]
 pub struct Found {
     pub place: u64,
     pub number: u32,
@@ -129,7 +129,7 @@ pub struct Found {
 
 // The kind of a parent word: 0 none, 1 a position, 2 an index into EDGE.
 #[repr(C)]
-#[derive(Clone, Copy)]
+#[derive(Clone, Copy, Default)]
 pub struct Commit {
     pub time: u64,
     pub place: u64,
@@ -145,7 +145,7 @@ pub struct Commit {
 
 // The kind: 0 a parent, 1 a refusal, 2 the end. The phase after the step: 0 first, 1 second, 2 EDGE number `edge`, 3 exhausted.
 #[repr(C)]
-#[derive(Clone, Copy)]
+#[derive(Clone, Copy, Default)]
 pub struct Step {
     pub edge: usize,
     pub place: u64,
@@ -158,7 +158,7 @@ pub struct Step {
 }
 
 #[repr(C)]
-#[derive(Clone, Copy)]
+#[derive(Clone, Copy, Default)]
 pub struct Total {
     pub count: usize,
     pub place: u64,

@@ -1,71 +1,73 @@
 -- Where a position stands: the ways through the question, what its answer comes to, and the file that is cut by it.
-use Prim.Native.Nat.{ℕ, ◌≤◌, ◌<◌}
-use mathlib.Core.List.{List}
-use mathlib.Core.Bool.{true, false}
-use mathlib.Core.Path.{◌≡◌, refl, sym, ap, subst, ◌∙◌}
-use mathlib.Core.Logic.{⊎_elim}
-use native.Mathlib.Omega.{arith}
-use lib.Dec.{leb}
-use denote.Ref.{Bor}
-use borrow.Author.Tests.{lt-ltb, le-ltb, le-leb, lt-leb}
-use Rattle.words.specs.First.{◌if◌else◌}
-use Rattle.types.specs.Refusals.{refusal}
+use Rattle.std.proofs.Common.{ℕ, ◌≤◌, ◌<◌, List, ◌≡◌, refl, sym, ap, subst, ◌∙◌, ⊎_elim, arith, leb, Bor, le-leb, Result, Ok, Err}
+use borrow.Author.Tests.{lt-leb}
+use Rattle.std.specs.Prelude.{Some, None, ⊤}
+use Rattle.words.specs.First.{◌if◌else◌, fine}
+use Rattle.words.proofs.Rows.{hit, refuse_some, refuse_none, refuse_other}
+use Rattle.types.specs.Refusals.{refusal, number_of}
+use Rattle.types.specs.declared.refusal.Reason.{Reason}
+use Rattle.types.proofs.Saying.{reason_of, reason_back}
+use Rattle.words.proofs.Numbers.{le_or_lt}
+use Rattle.types.specs.declared.refusal.Reason.TheVariants as Reason
 use Rattle.types.specs.declared.refusal.Refusal.{Refusal}
 use Rattle.words.specs.Part.{RecordsOf}
 use Rattle.words.proofs.Adds.{before_lt}
-use Rattle.words.proofs.Numbers.{le_or_lt}
 use Rattle.words.proofs.Parts.{run_in}
 use Rattle.list.specs.List.{records_of, length_at}
 use Rattle.file.specs.declared.File.{File}
 use Rattle.graph.specs.Chain.{start_at, part_at, count_at, commits_in, file_of, pos_of, opened, asked}
-use Rattle.graph.specs.Passes.{Holds, Viewed}
+use Rattle.graph.specs.Passes.{Holds, Seen}
 use Rattle.graph.specs.Spots.{spot_in, located}
 use Rattle.graph.specs.Theorems.{Spotted, FileOf}
-use Rattle.graph.specs.declared.locate.Located.TheVariants.{At, Refused as Nowhere}
 use Rattle.graph.specs.declared.locate.Spot.{Spot}
 use Rattle.graph.specs.declared.survey.Survey.{Survey}
 use Rattle.graph.proofs.Passing.{file_room}
 use Rattle.graph.proofs.Standing.{stands, asked_opened, asked_below}
-use Rattle.graph.proofs.Views.{else_first, else_next, numbers, opened_listed}
+use Rattle.graph.proofs.Views.{or_some, or_next, opened_listed}
+
+-- a reason has a number
+pub has_number : (e : Reason) → 0 < number_of e
+unfolding reason_of ◌if◌else◌
+has_number e =
+    ⊎_elim
+    (λ (h : number_of e ≤ 0).
+    let none : number_of e ≡ 0 = omega arith in
+    let last : Reason.Generation ≡ e = sym (ap reason_of none) ∙ reason_back e in
+    absurd (omega (arith, ap number_of last)))
+    (λ (h : 0 < number_of e). h)
+    (le_or_lt (number_of e) 0)
 
 module _ (z : ℕ) (c l : List ℕ) (g : ℕ) where
   -- ── the ways through it ──
 
-  nowhere : {q : Refusal} → q ≡ asked z c l g → 0 < q.number → Nowhere q ≡ located z c l g
-  unfolding located ◌if◌else◌
-  nowhere e h = rw (lt-ltb 0 (asked z c l g).number (omega (arith, numbers e))) (ap Nowhere e)
+  locate_none : {q : Refusal} → asked z c l g ≡ Err q → Err q ≡ located z c l g
+  unfolding located
+  locate_none h = refuse_some Err _ h
 
-  -- r is what a look at the chain gave
-  module _ {r : Survey} (v : Viewed z c l g r) where
-    pub locate_refused : 0 < r.refusal.number → Nowhere r.refusal ≡ located z c l g
+  pub locate_refused : {q : Refusal} → opened z c l ≡ Err q → Err q ≡ located z c l g
+  unfolding asked
+  locate_refused h = locate_none (or_some _ h)
+
+  -- s is what a look at the chain gave
+  module _ {s : Survey} (v : Seen z c l g s) where
+    next : asked z c l g ≡ (Err (refusal Reason.Position 0) if leb (commits_in z c l) g else fine)
     unfolding asked
-    locate_refused h = nowhere (v.refusal ∙ sym (else_first (opened z c l) _ (omega (arith, numbers v.refusal)))) h
+    next = or_next _ v.opens
 
-    module _ (h : r.refusal.number ≤ 0) where
-      none : r.refusal.number ≡ 0
-      none = omega arith
+    pub locate_out : s.spot ≡ None → Err (refusal Reason.Position 0) ≡ located z c l g
+    locate_out e =
+        let b : commits_in z c l ≤ g = v.kept.outside e in
+        locate_none (next ∙ sym (hit _ _ _ (le-leb (commits_in z c l) g b)))
 
-      next : asked z c l g ≡ (refusal 40 0 if leb (commits_in z c l) g else opened z c l)
-      unfolding asked
-      next = else_next (opened z c l) _ (omega (arith, numbers v.refusal))
-
-      pub locate_out : r.mark.found ≡ false → {q : Refusal} → q ≡ refusal 40 0 → Nowhere q ≡ located z c l g
-      unfolding ◌if◌else◌
-      locate_out f {q} e =
-          let b : commits_in z c l ≤ g = (v.kept none).outside f in
-          let y : q.number ≡ 40 = numbers e in
-          nowhere (e ∙ sym (next ∙ rw (le-leb (commits_in z c l) g b))) (omega arith)
-
-      pub locate_found : r.mark.found ≡ true → At r.mark.spot ≡ located z c l g
-      unfolding ◌if◌else◌ located spot_in
-      locate_found f =
-          let s : Spot = r.mark.spot in
-          let k : Holds z c l g (records_of z l) s = (v.kept none).holds f in
-          let b : g < commits_in z c l = omega (arith, k.sum, k.high, before_lt (count_at z c l) s.file (records_of z l) k.below) in
-          let a : asked z c l g ≡ opened z c l = next ∙ rw (lt-leb (commits_in z c l) g b) in
-          let file : file_of z c l g ≡ s.file = rw (← k.sum) ((stands z c l).file_back s.file s.pos.0 k.below k.high) in
-          let pos : pos_of z c l g ≡ s.pos.0 = rw (← k.sum) ((stands z c l).pos_back s.file s.pos.0 k.below k.high) in
-          rw (le-ltb 0 (asked z c l g).number (omega (arith, numbers a, numbers v.refusal)), file, pos, k.inner, ← k.start, ← k.size)
+    pub locate_found : {r : Spot} → s.spot ≡ Some r → Ok r ≡ located z c l g
+    unfolding located spot_in ◌if◌else◌
+    locate_found {r} e =
+        let k : Holds z c l g (records_of z l) r = v.kept.holds r e in
+        let b : g < commits_in z c l = omega (arith, k.sum, k.high, before_lt (count_at z c l) r.file (records_of z l) k.below) in
+        let a : asked z c l g ≡ fine = next ∙ rw (lt-leb (commits_in z c l) g b) in
+        let file : file_of z c l g ≡ r.file = rw (← k.sum) ((stands z c l).file_back r.file r.pos.0 k.below k.high) in
+        let pos : pos_of z c l g ≡ r.pos.0 = rw (← k.sum) ((stands z c l).pos_back r.file r.pos.0 k.below k.high) in
+        sym (refuse_none Err _ a ∙ rw (file, pos, k.inner, ← k.start, ← k.size))
 
   -- ── what its answer comes to ──
 
@@ -73,15 +75,15 @@ module _ (z : ℕ) (c l : List ℕ) (g : ℕ) where
   spot_of k i f = record { file = k; start = start_at z c l k; size = length_at z l k; pos = record { 0 = i }; inner = f }
 
   -- a question that is not refused has its spot
-  fine_spot : (asked z c l g).number ≡ 0 → (r : Spot) × (located z c l g ≡ At r) × Spotted z c l g r
-  unfolding located ◌if◌else◌ spot_in spot_of
+  fine_spot : asked z c l g ≡ fine → (r : Spot) × (located z c l g ≡ Ok r) × Spotted z c l g r
+  unfolding located spot_in spot_of
   fine_spot a =
       let b : g < commits_in z c l = asked_below z c l g a in
       let (f, o, h) = (stands z c l).opens g b in (
         spot_of (file_of z c l g) (pos_of z c l g) f,
-        rw (le-ltb 0 (asked z c l g).number (omega arith), o),
+        refuse_none Err _ a ∙ rw o,
         record {
-          fine = a;
+          asks = a;
           file = refl;
           pos = refl;
           sum = (stands z c l).sum g b;
@@ -95,20 +97,22 @@ module _ (z : ℕ) (c l : List ℕ) (g : ℕ) where
       )
 
   -- an answered spot is the position's, and a refusal is the question's
-  pub spotted : {r : Spot} → located z c l g ≡ At r → Spotted z c l g r
+  pub spotted : {r : Spot} → located z c l g ≡ Ok r → Spotted z c l g r
+  unfolding located
   spotted {r} e =
-      ⊎_elim (λ (h : (asked z c l g).number ≤ 0).
-      let (s, d, k) = fine_spot (omega arith) in let y : s ≡ r = cc in subst (Spotted z c l g) y k)
-      (λ (h : 0 < (asked z c l g).number). let d = nowhere refl h in let y : ◌≡◌ {A = ℕ} 0 1 = cc in absurd (omega arith))
-      (le_or_lt (asked z c l g).number 0)
+      let (s, d, k) = fine_spot (refuse_other (asked z c l g) Err _ (λ q w. cc) e).0 in
+      let y : s ≡ r = cc in
+      subst (Spotted z c l g) y k
 
-  pub unspotted : {q : Refusal} → located z c l g ≡ Nowhere q → (q ≡ asked z c l g) × (0 < q.number)
-  unspotted {q} e =
-      ⊎_elim (λ (h : (asked z c l g).number ≤ 0).
-      let (s, d, k) = fine_spot (omega arith) in let y : ◌≡◌ {A = ℕ} 0 1 = cc in absurd (omega arith))
-      (λ (h : 0 < (asked z c l g).number).
-      let d = nowhere refl h in let y : q ≡ asked z c l g = cc in (y, omega (arith, numbers y)))
-      (le_or_lt (asked z c l g).number 0)
+  pub unspotted_as : {q : Refusal} → located z c l g ≡ Err q → asked z c l g ≡ Err q
+  unspotted_as {q} e = go (asked z c l g) refl
+    where
+      go : (a : Result ⊤ Refusal) → asked z c l g ≡ a → asked z c l g ≡ Err q
+      go (Ok u) h = let (s, d, k) = fine_spot h in absurd (cc)
+      go (Err r) h = let d = locate_none h in cc
+
+  pub unspotted : {q : Refusal} → located z c l g ≡ Err q → (asked z c l g ≡ Err q) × (0 < number_of q.reason)
+  unspotted {q} e = (unspotted_as e, has_number q.reason)
 
 -- what is cut from the chain by a spot is its file
 pub file_cut : {z : ℕ} (c : Bor (List ℕ)) {l : List ℕ} {g : ℕ} {r : Spot} → Spotted z c.now l g r → {s : Bor (List ℕ)}
@@ -117,3 +121,6 @@ unfolding part_at
 file_cut c {r} h {s} p =
     let q = run_in c s r.start r.size h.room p in
     record { bytes = q.bytes ∙ rw (← h.start, ← h.size); place = q }
+
+-- how a position is located
+pub ruleset locating = (locate_refused, locate_out, locate_found)

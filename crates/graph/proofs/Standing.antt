@@ -1,30 +1,23 @@
 -- Each position of a chain stands in exactly one file, and back.
-use Prim.Native.Nat.{ℕ, ◌<◌}
-use mathlib.Core.List.{List}
-use mathlib.Core.Bool.{Bool, true, false}
-use mathlib.Core.Path.{◌≡◌, refl, sym, ap, ◌∙◌}
-use native.Mathlib.Omega.{arith}
-use lib.Dec.{leb}
-use borrow.Author.Tests.{leb-false}
-use Rattle.words.specs.First.{◌if◌else◌}
-use Rattle.types.specs.Refusals.{refusal}
+use Rattle.std.proofs.Common.{ℕ, ◌<◌, List, ◌≡◌, refl, sym, ap, ◌∙◌, arith, leb-false, Result, Ok, Err}
+use Rattle.words.specs.First.{fine}
+use Rattle.words.proofs.Rows.{pass}
+use Rattle.types.specs.declared.refusal.Refusal.{Refusal}
 use Rattle.words.proofs.Adds.{before_lt, which_below, within_below, within_sum, which_back, within_back}
 use Rattle.list.specs.List.{records_of}
 use Rattle.file.specs.declared.File.{File}
-use Rattle.file.specs.declared.Opening.{Opening}
-use Rattle.file.specs.declared.Opening.TheVariants.{Open, Refused}
 use Rattle.graph.specs.Chain.{commits_of, open_at, count_at, commits_in, file_of, pos_of, opened, asked}
 use Rattle.graph.specs.Theorems.{Stands}
-use Rattle.graph.proofs.Views.{else_none}
+use Rattle.graph.proofs.Views.{or_none}
 
 -- a file that has a place is open
-has_open : (o : Opening) (i : ℕ) → i < commits_of o → (f : File) × (o ≡ Open f) × (i < f.commits)
+has_open : (o : Result File Refusal) (i : ℕ) → i < commits_of o → (f : File) × (o ≡ Ok f) × (i < f.commits)
 unfolding commits_of
-has_open (Open f) i h = (f, refl, h)
-has_open (Refused r) i h = let z : ⊥ = omega arith in absurd z
+has_open (Ok f) i h = (f, refl, h)
+has_open (Err r) i h = let z : ⊥ = omega arith in absurd z
 
 module _ (z : ℕ) (c l : List ℕ) where
-  position_open : (g : ℕ) → g < commits_in z c l → (f : File) × (open_at z c l (file_of z c l g) ≡ Open f) × (pos_of z c l g < f.commits)
+  position_open : (g : ℕ) → g < commits_in z c l → (f : File) × (open_at z c l (file_of z c l g) ≡ Ok f) × (pos_of z c l g < f.commits)
   unfolding count_at
   position_open g h = has_open _ (pos_of z c l g) (within_below (count_at z c l) (records_of z l) g h)
 
@@ -47,14 +40,10 @@ module _ (z : ℕ) (c l : List ℕ) where
       }
 
   -- a position that is not refused: the chain opens, and it is one of the chain's
-  pub asked_opened : (g : ℕ) → (asked z c l g).number ≡ 0 → (opened z c l).number ≡ 0
+  pub asked_opened : (g : ℕ) → asked z c l g ≡ fine → opened z c l ≡ fine
   unfolding asked
-  asked_opened g e = (else_none (opened z c l) _ e).0
+  asked_opened g e = (or_none (opened z c l) _ e).0
 
-  pub asked_below : (g : ℕ) → (asked z c l g).number ≡ 0 → g < commits_in z c l
-  unfolding asked ◌if◌else◌
-  asked_below g e = go _ refl (else_none (opened z c l) (refusal 40 0 if leb (commits_in z c l) g else opened z c l) e).1
-    where
-      go : (t : Bool) → leb (commits_in z c l) g ≡ t → (refusal 40 0 if t else opened z c l).number ≡ 0 → g < commits_in z c l
-      go true q d = absurd (omega arith)
-      go false q d = leb-false (commits_in z c l) g q
+  pub asked_below : (g : ℕ) → asked z c l g ≡ fine → g < commits_in z c l
+  unfolding asked
+  asked_below g e = leb-false (commits_in z c l) g (pass _ _ _ (or_none (opened z c l) _ e).1).0

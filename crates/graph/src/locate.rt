@@ -8,8 +8,7 @@ ghost use Rattle.graph.specs.Spots.{located};
 use super::init::view;
 use file::File;
 use types::graph::Position;
-use types::refusal;
-use types::refusal::{POSITION, Refusal};
+use types::refusal::{Reason, Refusal, at};
 
 // A position's file: its index, where it starts in the chain and how long it is; the position in it; and its record.
 #[derive(Clone, Copy)]
@@ -21,36 +20,22 @@ pub struct Spot {
     pub inner: File,
 }
 
-#[derive(Clone, Copy)]
-pub enum Located {
-    At(Spot),
-    Refused(Refusal),
-}
-
 // The refusal of file `k`, in place of one file's.
 pub fn of_file(k: u32, r: Refusal) -> Refusal
     ensures { result ≡ placed k r }
 {
     Refusal {
-        number: r.number,
+        reason: r.reason,
         file: k,
         place: r.place,
     }
 }
 
 // Where a position stands.
-pub fn locate(chain: &[u8], list: &[u8], pos: Position) -> Located
+#[tactic(auto, using(crate::proofs::Spots::locating))]
+pub fn locate(chain: &[u8], list: &[u8], pos: Position) -> Result<Spot, Refusal>
     ensures { Answers located_said result (located 32 chain.now list.now pos.0) }
 {
-    let v = view(chain, list, pos.0);
-    let q = v.refusal;
-    let mark = v.mark;
-    if 0 < q.number {
-        return Located::Refused(q);
-    }
-    if mark.found {
-        let spot = mark.spot;
-        return Located::At(spot);
-    }
-    Located::Refused(refusal::at(POSITION, 0))
+    let survey = view(chain, list, pos.0)?;
+    survey.spot.ok_or(at(Reason::Position, 0))
 }

@@ -1,57 +1,10 @@
 -- Messages put together, over the step that one block makes: the words after the whole blocks of a list, and what is left behind them.
-use Rattle.std.proofs.Common.{
-  ◌≡◌,
-  ℕ,
-  zero,
-  suc,
-  ◌+◌,
-  ◌-◌,
-  ◌*◌,
-  ◌/◌,
-  ◌%◌,
-  ◌<◌,
-  ◌≤◌,
-  List,
-  ◌++◌,
-  length,
-  take,
-  drop,
-  sym,
-  refl,
-  ap,
-  ◌∙◌,
-  ap₂,
-  append_assoc,
-  append-nil,
-  le_of_eq,
-  add-zero,
-  add-suc,
-  arith,
-  length-append,
-  length-drop,
-  take-append-drop,
-  length-take-le,
-  take_all,
-}
-use lib.Seq.{take-append-le, drop-append-le, drop-append-add}
-use Rattle.block.specs.Message.{block, after, after_all}
+use Rattle.std.proofs.Common.{◌≡◌, ℕ, ◌+◌, ◌-◌, ◌*◌, ◌/◌, ◌%◌, ◌<◌, ◌≤◌, List, ◌++◌, length, take, drop, sym, ap, ◌∙◌, append_assoc, append-nil}
+use Rattle.std.proofs.Common.{arith, length-append, length-drop, take-append-drop, length-take-le}
+use Rattle.std.proofs.Math.Seq.{drop-append-add}
+use Rattle.block.specs.Message.{after, after_all}
+use Rattle.block.proofs.Joined.{joins, small}
 use Rattle.hasher.specs.Feed.{rest, padded}
-
--- the list of `&l[a..]`
-pub tail : (l : List ℕ) (a : ℕ) → take (length l - a) (drop a l) ≡ drop a l
-tail l a = take_all (length l - a) (drop a l) (le_of_eq (length-drop a l))
-
--- block i lies in the first part, or in the second
-block_low : (p r : List ℕ) (i : ℕ) → 64 * i + 64 ≤ length p → block (p ++ r) i ≡ block p i
-unfolding block
-block_low p r i h =
-    ap (take 64) (drop-append-le (64 * i) p r (omega arith)) ∙ take-append-le 64 (drop (64 * i) p) r (simp length-drop (omega arith))
-
-block_high : (p r : List ℕ) (q j : ℕ) → length p ≡ 64 * q → block (p ++ r) (q + j) ≡ block r j
-unfolding block
-block_high p r q j e =
-    let a : 64 * (q + j) ≡ length p + 64 * j = omega arith in
-    rw (a, drop-append-add)
 
 pub rest_joins : (p r : List ℕ) (q : ℕ) → length p ≡ 64 * q → rest (p ++ r) ≡ rest r
 unfolding rest
@@ -66,6 +19,11 @@ small_rest r h = let a : 64 * (length r / 64) ≡ 0 = omega arith in rw a
 pub length_rest : (d : List ℕ) → length (rest d) ≡ length d % 64
 unfolding rest
 length_rest d = simp length-drop (omega arith)
+
+-- what `remainder` of a slice's blocks gives
+pub rest_cut : (d : List ℕ) → drop (length d - length d % 64) d ≡ rest d
+unfolding rest
+rest_cut d = ap (λ (k : ℕ). drop k d) (omega arith)
 
 pub padded_full : (d : List ℕ) → length d ≡ 64 → padded d ≡ d
 unfolding padded
@@ -102,29 +60,7 @@ module _ (o s : List ℕ) (r : ℕ) (e : length o + r ≡ 64) (h : r ≤ length 
   rest_fills = sym (ap rest cut ∙ rest_joins (o ++ take r s) (drop r s) 1 full)
 
 module _ (step : List ℕ → List ℕ → List ℕ) where
-  after_low : (w p r : List ℕ) (n : ℕ) → 64 * n ≤ length p → after step w (p ++ r) n ≡ after step w p n
-  unfolding after
-  after_low w p r zero h = refl
-  after_low w p r (suc n) h = ap₂ step (after_low w p r n (omega arith)) (block_low p r n (omega arith))
-
-  after_high : (w p r : List ℕ) (q : ℕ) → length p ≡ 64 * q → (j : ℕ) → after step w (p ++ r) (q + j) ≡ after step (after step w p q) r j
-  unfolding after
-  after_high w p r q e zero = rw add-zero (after_low w p r q (omega arith))
-  after_high w p r q e (suc j) =
-      rw add-suc (ap₂ step (after_high w p r q e j) (block_high p r q j e))
-
-  -- q whole blocks, then r
-  joins : (w p r : List ℕ) (q : ℕ) → length p ≡ 64 * q → after_all step w (p ++ r) ≡ after_all step (after step w p q) r
-  unfolding after_all
-  joins w p r q e =
-      let a : length (p ++ r) / 64 ≡ q + length r / 64 = simp length-append (omega arith) in
-      rw a (after_high w p r q e (length r / 64))
-
-  -- less than a block, and exactly one
-  pub small : (w r : List ℕ) → length r < 64 → after_all step w r ≡ w
-  unfolding after_all after
-  small w r h = let a : length r / 64 ≡ 0 = omega arith in rw a
-
+  -- exactly one block
   one : (w p : List ℕ) → length p ≡ 64 → after_all step w p ≡ after step w p 1
   unfolding after_all
   one w p e = let a : length p / 64 ≡ 1 = omega arith in rw a
@@ -132,14 +68,14 @@ module _ (step : List ℕ → List ℕ → List ℕ) where
   -- d and then b: b goes on from the words after d and the rest of d
   after_whole : (w d : List ℕ) → after_all step w d ≡ after step w (whole d) (length d / 64)
   after_whole w d =
-      ap (after_all step w) (split d) ∙ joins w (whole d) (rest d) _ (length_whole d) ∙ small _ (rest d) (omega (arith, length_rest d))
+      ap (after_all step w) (split d) ∙ joins step w (whole d) (rest d) _ (length_whole d) ∙ small step _ (rest d) (omega (arith, length_rest d))
 
   pub goes_on : (w d b : List ℕ) → after_all step (after_all step w d) (rest d ++ b) ≡ after_all step w (d ++ b)
   goes_on w d b =
-      rw (after_whole w d, split_more d b) (sym (joins w (whole d) (rest d ++ b) _ (length_whole d)))
+      rw (after_whole w d, split_more d b) (sym (joins step w (whole d) (rest d ++ b) _ (length_whole d)))
 
   pub fills_up : (o s : List ℕ) (r : ℕ) → length o + r ≡ 64 → r ≤ length s → (w : List ℕ)
       → after_all step (after_all step w (padded (o ++ take r s))) (drop r s) ≡ after_all step w (o ++ s)
   fills_up o s r e h w =
       let f = full o s r e h in
-      rw (padded_full _ f, one w (o ++ take r s) f, cut o s r e h) (sym (joins w (o ++ take r s) (drop r s) 1 f))
+      rw (padded_full _ f, one w (o ++ take r s) f, cut o s r e h) (sym (joins step w (o ++ take r s) (drop r s) 1 f))

@@ -1,4 +1,5 @@
 pub mod Blocks
 pub mod Fed
+pub mod Arrays
 pub mod Laws
 pub mod Results

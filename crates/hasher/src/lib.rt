@@ -8,7 +8,7 @@ ghost use Rattle.std.specs.Prelude.{◌≡◌};
 ghost use Rattle.hasher.specs.State.{started, updated, finished};
 
 use block::blocks;
-use fields::{digest, joined, length_bytes};
+use fields::{digest, joined};
 
 #[derive(Clone, Copy)]
 pub struct Hasher {
@@ -19,6 +19,7 @@ pub struct Hasher {
 
 impl Hasher {
     // A hasher that has had nothing.
+    #[tactic(auto, unfolding(crate::specs::State::started, crate::specs::Fips::initial))]
     pub fn new() -> Hasher
         ensures { result ≡ started }
     {
@@ -39,28 +40,25 @@ impl Hasher {
     pub fn update(self, s: &[u8]) -> Hasher
         ensures { result ≡ updated self s.now }
     {
-        let old = self.block;
-        let words = self.words;
-        let n = (self.count % 64) as usize;
-        let count = std::num::wrapping_add_u64(self.count, s.len() as u64);
-        let room = 64 - n;
+        let open = (self.count % 64) as usize;
+        let count = self.count.wrapping_add(s.len() as u64);
+        let room = 64 - open;
         if s.len() < room {
-            let block = joined(old, n, s);
+            let block = joined(&self.block[..open], s);
             return Hasher {
                 block,
-                words,
                 count,
+                ..self
             };
         }
-        let full = joined(old, n, &s[..room]);
-        let first = blocks(words, &full);
-        let tail = &s[room..];
-        let all = blocks(first, tail);
-        let at = 64 * (tail.len() / 64);
-        let block = joined(full, 0, &tail[at..]);
+        let (head, tail) = s.split_at(room);
+        let full = joined(&self.block[..open], head);
+        let first = blocks(self.words, &full);
+        let words = blocks(first, tail);
+        let block = joined(&[], tail.chunks_exact(64).remainder());
         Hasher {
             block,
-            words: all,
+            words,
             count,
         }
     }
@@ -69,13 +67,11 @@ impl Hasher {
     pub fn finish(self) -> [u8; 20]
         ensures { result ≡ finished self }
     {
-        let count = self.count;
         let mut mark = [0u8; 64];
         mark[0] = 0x80;
-        let e = 1 + ((119 - count % 64) % 64) as usize;
-        let size = length_bytes(count);
+        let e = 1 + ((119 - self.count % 64) % 64) as usize;
+        let size = self.count.wrapping_mul(8).to_be_bytes();
         let h = self.update(&mark[..e]).update(&size);
-        let w = h.words;
-        digest(w)
+        digest(h.words)
     }
 }

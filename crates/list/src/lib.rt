@@ -2,7 +2,7 @@
 #![tactic(auto)]
 
 ghost use Rattle.std.specs.Prelude.{◌≡◌, ◌+◌, ◌*◌, ◌≤◌, ◌<◌, not, ◌&&◌, eqb, length};
-ghost use Rattle.types.specs.Refusals.{refusal};
+ghost use Rattle.types.specs.Refusals.{refused_at};
 ghost use Rattle.words.specs.Big.{be, number};
 ghost use Rattle.words.specs.First.{first};
 ghost use Rattle.words.specs.Part.{RecordsOf};
@@ -11,7 +11,7 @@ ghost use Rattle.list.specs.List.{records_of, length_at, kind_at, claim_at, spar
 
 use order::{same, zero};
 use types::refusal;
-use types::refusal::{LIST_RECORD, LIST_SIZE, LIST_SUM, Refusal, TOO_LARGE};
+use types::refusal::{Reason, Refusal};
 use words::big::be32;
 use words::part::part;
 
@@ -26,6 +26,7 @@ pub fn count(list: &[u8], z: u32) -> usize
 }
 
 // Where record `k` starts.
+#[tactic(auto, using(crate::proofs::Records::square))]
 fn at(z: u32, k: u32) -> usize
     ensures { (result ≡ k * z) × (result ≤ 18446744065119617025) }
 {
@@ -68,6 +69,7 @@ fn spare_at(list: &[u8], z: u32, k: u32) -> u32
 }
 
 // Record `k` claims nothing: its hash bytes are zero.
+#[tactic(auto, using(crate::proofs::Records::claim_number))]
 fn blank(list: &[u8], z: u32, k: u32) -> bool
     requires { k * z + 28 ≤ length list.now }
     ensures { result ≡ eqb (claim_at z list.now k) 0 }
@@ -80,93 +82,62 @@ fn stray(list: &[u8], z: u32, k: u32) -> bool
     requires { k * z + 28 ≤ length list.now }
     ensures { result ≡ ((not (eqb (kind_at z list.now k) 1)) && (not (eqb (claim_at z list.now k) 0))) }
 {
-    if kind_at(list, z, k) == 1 {
-        return false;
-    }
-    !blank(list, z, k)
+    kind_at(list, z, k) != 1 && !blank(list, z, k)
 }
 
-// Refusal 31 of record `k`, or 0.
-fn record_rule(list: &[u8], z: u32, k: u32) -> u32
+// Refusal 31 of record `k`.
+#[tactic(auto, using(words::proofs::Rows::rows), unfolding(crate::specs::List::record_rule))]
+fn record_rule(list: &[u8], z: u32, k: u32) -> Result<(), Reason>
     requires { k * z + 28 ≤ length list.now }
     ensures { result ≡ record_rule z list.now k }
 {
-    if 2 < kind_at(list, z, k) {
-        return LIST_RECORD;
+    if 2 < kind_at(list, z, k) || stray(list, z, k) || 0 < spare_at(list, z, k) {
+        return Err(Reason::ListRecord);
     }
-    if stray(list, z, k) {
-        return LIST_RECORD;
-    }
-    if 0 < spare_at(list, z, k) {
-        return LIST_RECORD;
-    }
-    0
-}
-
-// The first record that breaks the layout, or `n`.
-fn bad_record(list: &[u8], z: u32, n: u32) -> u32
-    requires { (32 ≤ z) × (n * z ≤ length list.now) }
-    ensures { result ≡ first (flawed z list.now) 0 n }
-{
-    let mut k = 0;
-    while k < n {
-        if 0 < record_rule(list, z, k) {
-            return k;
-        }
-        k += 1;
-    }
-    k
+    Ok(())
 }
 
 // The sum of the lengths that the first `n` records give.
+#[tactic(auto, using(words::proofs::Adds::before_next), unfolding(words::specs::Sums::before))]
 fn total(list: &[u8], z: u32, n: u32) -> u64
     requires { n ≤ 256 }
     ensures { result ≡ before (length_at z list.now) n }
 {
     let mut sum = 0;
-    let mut k = 0;
-    while k < n {
-        sum = sum + (length_at(list, z, k) as u64);
-        k += 1;
+    for k in 0..n {
+        sum += length_at(list, z, k) as u64;
     }
     sum
 }
 
-// Refusals 1 and 30 of a list for a chain of `n` bytes, or 0.
-fn size_rule(list: &[u8], z: u32, n: usize) -> u32
+// Refusals 1 and 30 of a list for a chain of `n` bytes.
+#[tactic(auto, using(words::proofs::Rows::rows), unfolding(crate::specs::List::size_rule))]
+fn size_rule(list: &[u8], z: u32, n: usize) -> Result<(), Reason>
     requires { 0 < z }
     ensures { result ≡ size_rule z n list.now }
 {
     if 1073741824 < n {
-        return TOO_LARGE;
+        return Err(Reason::TooLarge);
     }
-    if list.len() == 0 {
-        return LIST_SIZE;
+    let z = z as usize;
+    if list.is_empty() || list.len() % z != 0 || 256 < list.len() / z {
+        return Err(Reason::ListSize);
     }
-    if list.len() % (z as usize) != 0 {
-        return LIST_SIZE;
-    }
-    if 256 < list.len() / (z as usize) {
-        return LIST_SIZE;
-    }
-    0
+    Ok(())
 }
 
-// Refusals 1 and 30 to 32 of a list of 32-byte records for a chain of `n` bytes. Number 0 where it is sound.
-pub fn check(list: &[u8], n: usize) -> Refusal
-    ensures { result ≡ refusal (list_rule 32 n list.now) (list_place 32 n list.now) }
+// Refusals 1 and 30 to 32 of a list of 32-byte records for a chain of `n` bytes.
+#[tactic(auto, using(crate::proofs::Records::checking), unfolding(crate::specs::List::bad_record, crate::specs::List::flawed))]
+pub fn check(list: &[u8], n: usize) -> Result<(), Refusal>
+    ensures { result ≡ refused_at (list_rule 32 n list.now) (list_place 32 n list.now) }
 {
-    let m = size_rule(list, 32, n);
-    if 0 < m {
-        return refusal::at(m, 0);
-    }
+    size_rule(list, 32, n)?;
     let c = (list.len() / 32) as u32;
-    let k = bad_record(list, 32, c);
-    if k < c {
-        return refusal::at(LIST_RECORD, k as u64);
+    for k in 0..c {
+        record_rule(list, 32, k).map_err(|reason| refusal::at(reason, k as u64))?;
     }
     if total(list, 32, c) != (n as u64) {
-        return refusal::at(LIST_SUM, 0);
+        return Err(refusal::at(Reason::ListSum, 0));
     }
-    refusal::at(0, 0)
+    Ok(())
 }

@@ -8,33 +8,23 @@ ghost use Rattle.types.specs.Said.{Answers};
 ghost use Rattle.steps.specs.declared.Phase.TheVariants.{Second};
 ghost use Rattle.marks.specs.Marks.{field_at, edge_at, place_of, Meets, word_of, Read, date_of, entry_of, check_of};
 
-use access::Asking;
 use chunk::{Span, start};
-use commit::{Asked, ParentEdge, commit_at};
+use commit::{ParentEdge, commit_at};
 use file::File;
 use fit::ask;
-use parents::{Answer, step_at};
+use fit::parts::Fit;
+use parents::step_at;
 use rules::{entry_in, sum_in};
 use steps::Phase;
 use types::file::Position;
 use types::refusal;
-use types::refusal::{Refusal, TOO_LARGE, TOO_SMALL};
-use words::part::part;
-
-// Where the bytes stand that answer a question.
-#[derive(Clone, Copy)]
-pub enum Mark {
-    At(Span),
-    Nothing,
-    Refused(Refusal),
-}
+use types::refusal::{Reason, Refusal};
 
 // Where the trailer stands, and whether it is the SHA-1 of all bytes before it.
 #[derive(Clone, Copy)]
 pub enum Checked {
     Right(Span),
     Wrong(Span),
-    Refused(Refusal),
 }
 
 // What stands `o` bytes behind the tree of commit `i`.
@@ -51,8 +41,7 @@ fn edge(f: File, k: usize) -> usize
     requires { edge_at f k < 2 ^ 64 }
     ensures { result ≡ edge_at f k }
 {
-    let c = f.edge;
-    start(c) + 4 * k
+    start(f.edge) + 4 * k
 }
 
 // The word that the step from second reads, where it answers a parent.
@@ -60,20 +49,18 @@ fn second(s: &[u8], f: File, pos: Position) -> usize
     requires { Meets s.now f pos.0 Second }
     ensures { result ≡ place_of s.now f pos.0 Second }
 {
-    match commit_at(s, f, pos) {
-        Asked::Refused(_) => 0,
-        Asked::Commit(c) => {
-            let word = c.second;
-            match word {
-                ParentEdge::None => 0,
-                ParentEdge::GraphPosition(_) => field(f, pos.0, 4),
-                ParentEdge::ExtraEdgeIndex(k) => edge(f, k as usize),
-            }
-        }
+    let Ok(c) = commit_at(s, f, pos) else {
+        return 0;
+    };
+    match c.second {
+        ParentEdge::None => 0,
+        ParentEdge::GraphPosition(_) => field(f, pos.0, 4),
+        ParentEdge::ExtraEdgeIndex(k) => edge(f, k as usize),
     }
 }
 
 // The word that the step from a phase reads, where it answers a parent.
+#[tactic(auto, unfolding(crate::specs::Marks::place_of))]
 fn place(s: &[u8], f: File, pos: Position, phase: Phase) -> usize
     requires { Meets s.now f pos.0 phase }
     ensures { result ≡ place_of s.now f pos.0 phase }
@@ -86,71 +73,65 @@ fn place(s: &[u8], f: File, pos: Position, phase: Phase) -> usize
     }
 }
 
+// The word of the parent which the step from this phase answers, as the definition says.
+#[tactic(auto, unfolding(crate::specs::Marks::word_of, crate::specs::Marks::mark_by))]
+fn word(s: &[u8], f: File, pos: Position, phase: Phase) -> Result<Option<Span>, Refusal>
+    ensures { result ≡ word_of s.now f pos.0 phase }
+{
+    if step_at(s, f, pos, phase).answer?.is_none() {
+        return Ok(None);
+    }
+    let start = place(s, f, pos, phase);
+    let end = start + 4;
+    Ok(Some(Span { start, end }))
+}
+
 // The word that holds the parent which the step from this phase answers. Nothing where it answers the end.
-pub fn word_at(s: &[u8], f: File, pos: Position, phase: Phase) -> Mark
+pub fn word_at(s: &[u8], f: File, pos: Position, phase: Phase) -> Result<Option<Span>, Refusal>
     ensures is { Answers mark_said result (word_of s.now f pos.0 phase) }
     ensures read { Read s.now f pos.0 phase result }
 {
-    let x = step_at(s, f, pos, phase);
-    let answer = x.answer;
-    match answer {
-        Answer::Refused(r) => Mark::Refused(r),
-        Answer::End => Mark::Nothing,
-        Answer::Parent(_) => {
-            let start = place(s, f, pos, phase);
-            let end = start + 4;
-            Mark::At(Span { start, end })
-        }
-    }
+    word(s, f, pos, phase)
 }
 
 // The 8 bytes that hold a commit's generation and time.
-pub fn date_at(s: &[u8], f: File, pos: Position) -> Mark
+#[tactic(auto, using(crate::proofs::Ways::marking), unfolding(crate::specs::Marks::date_of, words::specs::First::refuse))]
+pub fn date_at(s: &[u8], f: File, pos: Position) -> Result<Option<Span>, Refusal>
     ensures { Answers mark_said result (date_of s.now f pos.0) }
 {
-    let m = ask(s, f, f.commits, pos.0);
-    if 0 < m {
-        return Mark::Refused(refusal::at(m, 0));
-    }
+    ask(s, f, f.commits, pos.0)?;
     let start = field(f, pos.0, 8);
     let end = start + 8;
-    Mark::At(Span { start, end })
+    Ok(Some(Span { start, end }))
 }
 
 // Which of 64 to 67 a commit meets, or 40 where there is no such commit.
-pub fn entry_at(s: &[u8], f: File, pos: Position) -> Asking
+#[tactic(auto, using(crate::proofs::Ways::entry_cut), unfolding(crate::specs::Marks::entry_of, words::specs::First::refuse))]
+pub fn entry_at(s: &[u8], f: File, pos: Position) -> Result<(), Refusal>
     ensures { Answers asking_said result (entry_of s.now f pos.0) }
 {
-    let m = ask(s, f, f.commits, pos.0);
-    if 0 < m {
-        return Asking::Refused(refusal::at(m, 0));
-    }
-    let w = f.width;
-    let n = f.commits as usize;
-    let fan = part(s, f.oidf, 256, 4);
-    let ids = part(s, f.oidl, n, w);
-    let rows = part(s, f.cdat, n, w + 16);
-    let k = entry_in(fan, ids, rows, w, pos.0);
-    if 0 < k {
-        return Asking::Refused(refusal::at(k, pos.0 as u64));
-    }
-    Asking::Fine
+    let i = pos.0;
+    let fit = Fit::asked(s, f, f.commits, i)?;
+    entry_in(fit.fan(), fit.ids(), fit.rows(), f.width, i).map_err(|reason| refusal::at(
+        reason, i as u64,
+    ))
 }
 
 // The trailer of any bytes of a file's size, also where the file does not open.
-pub fn trailer(s: &[u8]) -> Checked
+#[tactic(auto, using(crate::proofs::Ways::trailing), unfolding(crate::specs::Marks::check_of, crate::specs::Marks::size_rule, words::specs::First::refuse))]
+pub fn trailer(s: &[u8]) -> Result<Checked, Refusal>
     ensures { Answers checked_said result (check_of s.now) }
 {
     let n = s.len();
     if 1073741824 < n {
-        return Checked::Refused(refusal::at(TOO_LARGE, 0));
+        return Err(refusal::at(Reason::TooLarge, 0));
     }
     if n < 1100 {
-        return Checked::Refused(refusal::at(TOO_SMALL, 0));
+        return Err(refusal::at(Reason::TooSmall, 0));
     }
     let start = n - 20;
-    if 0 < sum_in(s, 20) {
-        return Checked::Wrong(Span { start, end: n });
+    if sum_in(s, 20).is_err() {
+        return Ok(Checked::Wrong(Span { start, end: n }));
     }
-    Checked::Right(Span { start, end: n })
+    Ok(Checked::Right(Span { start, end: n }))
 }

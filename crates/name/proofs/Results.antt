@@ -3,4 +3,4 @@ use Rattle.words.proofs.Determined.{same, Determined}
 use Rattle.name.proofs.read.Reads as read
 
 pub read_determined : Determined read.Learnt
-read_determined κs a y z d e p q = same p q
+read_determined κs a y z d e p q = same p.is q.is

@@ -1,112 +1,59 @@
-// The kind of a file's name: 1 for graph-HASH.graph, with the hash it claims, 2 for that shape without a hash, 0 for any other name.
+// What a file's name says. A name `graph-HASH.graph` claims that the file's hash is HASH.
 #![tactic(auto)]
 
-ghost use Rattle.std.specs.Prelude.{◌≡◌, ◌+◌, ◌-◌, ◌*◌, ◌≤◌, ◌<◌, length};
-ghost use Rattle.words.specs.First.{first};
-ghost use Rattle.name.specs.Names.{digit_of, misfit, kind_of, Hexed, hash_of, name_of};
-
-use order::same;
+ghost use Rattle.std.specs.Prelude.{◌≡◌, ◌<◌, length, IfSome};
+ghost use Rattle.name.specs.Names.{digit_of, claim_of, name_of};
+ghost use Rattle.name.specs.Said.{name_said};
+ghost use Rattle.types.specs.Said.{Answers};
 
 #[derive(Clone, Copy)]
-pub struct Name {
-    pub kind: u32,
-    pub hash: [u8; 20],
+pub enum Name {
+    // Not of that shape.
+    Other,
+    Claims([u8; 20]),
+    // Of that shape, but with no hash in the middle.
+    Hashless,
 }
 
-// The value of a hex digit of either case, or 16.
-fn digit(b: u8) -> u8
-    ensures { (result ≡ digit_of b) × (result ≤ 16) }
+// The value of a hex digit of either case.
+fn digit(b: u8) -> Option<u8>
+    ensures value { result ≡ digit_of b }
+    ensures small { IfSome result (λ d. d < 16) }
 {
-    if b < 48 {
-        return 16;
+    match b {
+        b'0'..=b'9' => Some(b - b'0'),
+        b'A'..=b'F' => Some(b - b'A' + 10),
+        b'a'..=b'f' => Some(b - b'a' + 10),
+        _ => None,
     }
-    if b < 58 {
-        return b - 48;
-    }
-    if b < 65 {
-        return 16;
-    }
-    if b < 71 {
-        return b - 55;
-    }
-    if b < 97 {
-        return 16;
-    }
-    if b < 103 {
-        return b - 87;
-    }
-    16
 }
 
-// The first of the `n` bytes behind `graph-` that is no hex digit, or `n`.
-fn odd(s: &[u8], n: usize) -> usize
-    requires { 6 + n ≤ length s.now }
-    ensures { result ≡ first (misfit s.now) 0 n }
+// The bytes that 40 hex digits make, if all of them are digits.
+fn hash(digits: &[u8]) -> Option<[u8; 20]>
+    requires { length digits.now ≡ 40 }
+    ensures { result ≡ claim_of digits.now }
 {
-    let mut i = 0;
-    while i < n {
-        if 15 < digit(s[6 + i]) {
-            return i;
-        }
-        i += 1;
+    let mut hash = [0; 20];
+    for i in 0..20 {
+        let high = digit(digits[2 * i])?;
+        let low = digit(digits[2 * i + 1])?;
+        hash[i] = 16 * high + low;
     }
-    i
-}
-
-// Where the last six of `n` bytes start; 0 where there are fewer.
-fn tail(n: usize) -> usize
-    ensures { result ≡ n - 6 }
-{
-    if n < 6 { 0 } else { n - 6 }
-}
-
-// The kind of a name whose hash would have `w` bytes.
-fn kind(s: &[u8], w: usize) -> u32
-    requires { w < 1000 }
-    ensures { result ≡ kind_of w s.now }
-{
-    if !same(b"graph-", s, 0) {
-        return 0;
-    }
-    if !same(b".graph", s, tail(s.len())) {
-        return 0;
-    }
-    if s.len() != 12 + 2 * w {
-        return 2;
-    }
-    if odd(s, 2 * w) < 2 * w {
-        return 2;
-    }
-    1
-}
-
-// The bytes that 40 hex digits behind `graph-` make.
-fn claimed(s: &[u8]) -> [u8; 20]
-    requires { Hexed 20 s.now }
-    ensures { result ≡ hash_of s.now 20 }
-{
-    let mut out = [0u8; 20];
-    let mut i = 0;
-    while i < 20 {
-        let a = digit(s[6 + 2 * i]);
-        let b = digit(s[7 + 2 * i]);
-        out[i] = 16 * a + b;
-        i += 1;
-    }
-    out
+    Some(hash)
 }
 
 // What a file's name says.
 pub fn read(s: &[u8]) -> Name
-    ensures { result ≡ name_of s.now }
+    ensures { Answers name_said result (name_of s.now) }
 {
-    let k = kind(s, 20);
-    if k == 1 {
-        let hash = claimed(s);
-        return Name { kind: k, hash };
+    if !s.starts_with(b"graph-") || !s.ends_with(b".graph") {
+        return Name::Other;
     }
-    Name {
-        kind: k,
-        hash: [0u8; 20],
+    if s.len() != 52 {
+        return Name::Hashless;
+    }
+    match hash(&s[6..46]) {
+        Some(hash) => Name::Claims(hash),
+        None => Name::Hashless,
     }
 }

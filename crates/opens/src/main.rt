@@ -3,16 +3,17 @@
 // What it reads and what it must print is made by `python3 tests/opens.py crates/opens`.
 #![tactic(auto)]
 
-use cases::record::{read, room};
+use cases::record::each;
+use file::File;
 use file::init::open;
-use file::{File, Opening};
+use name::Name;
 use prints::print::{hex, number, print, refusal};
 use types::refusal::Refusal;
 
 fn print_file(f: File) {
     print(b"open");
-    number(f.commits as u64);
-    number(f.bases as u64);
+    number(u64::from(f.commits));
+    number(u64::from(f.bases));
     print(b"\n");
 }
 
@@ -22,28 +23,28 @@ fn print_refusal(r: Refusal) {
 }
 
 fn answer_file(s: &[u8]) {
-    let o = open(s);
-    match o {
-        Opening::Open(f) => print_file(f),
-        Opening::Refused(r) => print_refusal(r),
+    match open(s) {
+        Ok(f) => print_file(f),
+        Err(r) => print_refusal(r),
     }
 }
 
 // Opens what each length from 0 on leaves of a file.
 fn answer_prefixes(s: &[u8]) {
-    let mut n = 0;
-    while n <= s.len() {
+    for n in 0..=s.len() {
         answer_file(&s[..n]);
-        n += 1;
     }
 }
 
 fn answer_name(s: &[u8]) {
-    let n = name::read(s);
+    let (kind, hash) = match name::read(s) {
+        Name::Other => (0, [0; 20]),
+        Name::Claims(hash) => (1, hash),
+        Name::Hashless => (2, [0; 20]),
+    };
     print(b"name");
-    number(n.kind as u64);
+    number(kind);
     print(b" ");
-    let hash = n.hash;
     hex(&hash);
     print(b"\n");
 }
@@ -59,21 +60,6 @@ fn answer(kind: u8, s: &[u8]) -> bool {
     true
 }
 
-// Reads one record and answers it. Says whether there may be more.
-fn record() -> bool {
-    let mut bytes = room();
-    let r = read(&mut bytes);
-    if !r.there {
-        return false;
-    }
-    let n = r.size;
-    answer(r.kind, &bytes[..n])
-}
-
-// The turns are counted, for nothing says that the input ends.
 fn main() {
-    let mut turns = u64::MAX;
-    while turns > 0 && record() {
-        turns -= 1;
-    }
+    each(answer);
 }

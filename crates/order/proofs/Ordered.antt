@@ -1,60 +1,29 @@
 -- Laws of order: of two numbers, and of the numbers that two runs of bytes make.
-use Prim.Native.Nat.{ℕ, zero, suc, ◌+◌, ◌-◌, ◌*◌, ◌^◌, ◌≤◌, ◌<◌, min}
-use mathlib.Core.List.{List}
-use mathlib.Core.Bool.{Bool, true, false}
-use mathlib.Core.Path.{◌≡◌, refl, sym, ap, subst, ◌∙◌}
-use mathlib.Core.Logic.{⊎_elim}
-use native.Mathlib.Omega.{arith}
-use native.Mathlib.Nat.{zero-add, add-zero, eq-or-lt_of_le, le_of_suc-le-suc}
-use lib.Arith.{le-zero, lt_of_le-ne}
-use lib.Dec.{ltb, eqb}
-use lib.ListN.{length, get_or, take, drop}
-use borrow.Author.Tests.{lt-ltb, le-ltb, eq-eqb, ne_eqb, ltb-true, ltb-false, eqb-true, eqb-false}
+use Rattle.std.proofs.Common.{ℕ, zero, suc, ◌+◌, ◌-◌, ◌*◌, ◌^◌, ◌≤◌, ◌<◌, min, List, [], ◌∷◌, ◌≡◌, refl, sym, ap, ap₂, ◌∙◌, ⊎_elim, arith, zero-add}
+use Rattle.std.proofs.Common.{eq-or-lt_of_le, le_of_suc-le-suc, eqb, length, get_or, take, drop, length-take, length-drop, ne_eqb}
+use native.Mathlib.Nat.{one-le-pow}
+use lib.Arith.{digits_lt}
 use Rattle.words.specs.Big.{be, number, Bytes}
-use Rattle.order.specs.Order.{rank, order}
-use Rattle.order.specs.declared.Order.{Order}
-use Rattle.order.specs.declared.Order.TheVariants.{Less, Equal, Greater}
-use Rattle.words.proofs.Numbers.{le_or_lt, be_next, be_split, be_past, be_part}
-use Rattle.words.proofs.Parts.{length_part}
-
-pub order_less : (a b : ℕ) → a < b → order a b ≡ Less
-unfolding order rank
-order_less a b h = rw (lt-ltb a b h)
-
-pub order_equal : {a b : ℕ} → a ≡ b → order a b ≡ Equal
-unfolding order rank
-order_equal {a} {b} h = let g : b ≤ a = omega arith in rw (le-ltb a b g, eq-eqb a b h)
-
-pub order_greater : (a b : ℕ) → b < a → order a b ≡ Greater
-unfolding order rank
-order_greater a b h =
-    let g : b ≤ a = omega arith in
-    rw (le-ltb a b g, ne_eqb a b (λ e. omega arith))
+use Rattle.std.specs.declared.cmp.Ordering.TheVariants.{Less, Equal, Greater}
+use Rattle.std.specs.declared.cmp.Ordering.{Ordering}
+use Rattle.std.specs.Ordering.{nat_cmp, ordering_then, MatchOrdering}
+use Rattle.std.specs.Cmp.Lexicographic.{slice_cmp}
+use Rattle.std.specs.List.{list_all}
+use Rattle.std.specs.Cmp.{nat_cmp_is, ranked}
+use Rattle.std.proofs.lemmas.Bool.{cases_lt}
+use Rattle.words.proofs.Numbers.{be_split, be_past, be_some, be_below, number_cons, bytes_part}
+use Rattle.words.proofs.Parts.{number_part}
 
 -- two runs of bytes, at i in a and at j in b
 module _ (a b : List ℕ) (i j : ℕ) where
-  pub one_more : (k : ℕ) → be k a i ≡ be k b j → get_or a (i + k) 0 ≡ get_or b (j + k) 0 → be (k + 1) a i ≡ be (k + 1) b j
-  one_more k e g = omega (arith, be_next a i k, be_next b j k)
-
   -- equal bytes make equal numbers
   pub same_number : (w : ℕ) → ((k : ℕ) → k < w → get_or a (i + k) 0 ≡ get_or b (j + k) 0) → be w a i ≡ be w b j
   unfolding be
   same_number zero h = refl
   same_number (suc w) h = omega (arith, same_number w (λ k g. h k (omega arith)), h w (omega arith))
 
-  -- the same n bytes, and then m more on one side and nothing on the other
-  module _ (n m : ℕ) (e : be n a i ≡ be n b j) (z : be m b (j + n) ≡ 0) where
-    heads : be n a i * 256 ^ m ≡ be n b j * 256 ^ m
-    heads = ap (λ (x : ℕ). x * 256 ^ m) e
-
-    pub tail_equal : be m a (i + n) ≡ 0 → be (n + m) a i ≡ be (n + m) b j
-    tail_equal h = omega (arith, heads, be_split n m a i, be_split n m b j)
-
-    pub tail_greater : 0 < be m a (i + n) → be (n + m) b j < be (n + m) a i
-    tail_greater h = omega (arith, heads, be_split n m a i, be_split n m b j)
-
   module _ (ba : Bytes a) (bb : Bytes b) where
-    pub less_more : (w k : ℕ) → k ≤ w → be k a i < be k b j → be w a i < be w b j
+    less_more : (w k : ℕ) → k ≤ w → be k a i < be k b j → be w a i < be w b j
     unfolding be
     less_more zero k h g = let e : k ≡ 0 = omega arith in rw e at g
     less_more (suc w) k h g =
@@ -65,7 +34,8 @@ module _ (a b : List ℕ) (i j : ℕ) where
 
     -- the first bytes that differ decide
     pub less_at : (w k : ℕ) → k < w → be k a i ≡ be k b j → get_or a (i + k) 0 < get_or b (j + k) 0 → be w a i < be w b j
-    less_at w k h e g = less_more w (k + 1) (omega arith) (omega (arith, be_next a i k, be_next b j k))
+    unfolding be
+    less_at w k h e g = less_more w (suc k) h (omega arith)
 
     -- equal numbers are made of equal bytes
     pub same_bytes : (w : ℕ) → be w a i ≡ be w b j → (k : ℕ) → k < w → get_or a (i + k) 0 ≡ get_or b (j + k) 0
@@ -77,79 +47,74 @@ module _ (a b : List ℕ) (i j : ℕ) where
         (λ q. same_bytes w (omega (arith, ba (i + w), bb (j + w))) k q)
         (eq-or-lt_of_le (le_of_suc-le-suc h))
 
--- x against the run of as many bytes at `at` of s, of which the first n lie in s: the first k are the same
-pub record Comparing (x s : List ℕ) (at n k : ℕ) : Type 0 where
-  pub few : k ≤ n
-  pub reach : n ≡ min (length x) (length s - at)
-  pub same : be k x 0 ≡ be k s at
+-- ── bytes that come one after another, as a number ──
 
-module _ {x s : List ℕ} {at n k : ℕ} (p : Comparing x s at n k) where
-  pub compare_less : Bytes x → Bytes s → k < n → get_or x k 0 < get_or s (at + k) 0 → Less ≡ order (number x) (be (length x) s at)
-  compare_less bx bs h g = sym (order_less _ _ (less_at x s 0 at bx bs (length x) k (omega arith) p.same (rw zero-add g)))
+-- all of them are 0 exactly if the number is
+pub all_zero : (l : List ℕ) → list_all (λ b. eqb b 0) l ≡ eqb (number l) 0
+unfolding be
+all_zero [] = refl
+all_zero (zero ∷ l) = all_zero l ∙ ap (λ (n : ℕ). eqb n 0) (omega (arith, number_cons 0 l))
+all_zero (suc x ∷ l) =
+    rw (ne_eqb (suc x) 0 (λ e. omega arith))
+    (sym (ne_eqb (number (suc x ∷ l)) 0 (λ e. omega (arith, be_some (suc (length l)) (suc x ∷ l) 0 0 (omega arith) (omega arith)))))
 
-  pub compare_greater : Bytes x → Bytes s → k < n → get_or s (at + k) 0 < get_or x k 0 → Greater ≡ order (number x) (be (length x) s at)
-  compare_greater bx bs h g = sym (order_greater _ _ (less_at s x at 0 bs bx (length x) k (omega arith) (sym p.same) (rw zero-add g)))
-
-  pub compare_on : k < n → get_or x k 0 ≤ get_or s (at + k) 0 → get_or s (at + k) 0 ≤ get_or x k 0 → Comparing x s at n (k + 1)
-  compare_on l h g = record { few = omega arith; reach = p.reach; same = one_more x s 0 at k p.same (rw zero-add (omega arith)) }
-
-  -- all n are the same: what is left of x stands against nothing
-  module _ (h : k ≡ n) where
-    rest : number (take (length x - n) (drop n x)) ≡ be (length x - n) x (0 + n)
-    rest =
-        let l : length (take (length x - n) (drop n x)) ≡ length x - n = length_part n (length x - n) x (omega arith) in
-        rw l (be_part (length x - n) x n (length x - n) 0 (omega arith) ∙ rw (add-zero, zero-add))
-
-    nothing : be (length x - n) s (at + n) ≡ 0
-    unfolding be
-    nothing =
-        ⊎_elim
-        (λ (g : length s ≤ at + n). be_past (length x - n) s (at + n) g)
-        (λ (g : at + n < length s). let z : length x - n ≡ 0 = omega arith in ap (λ (j : ℕ). be j s (at + n)) z)
-        (le_or_lt (length s) (at + n))
-
-    all : n + (length x - n) ≡ length x
-    all = omega arith
-
-    pub compare_equal : true ≡ eqb (number (take (length x - n) (drop n x))) 0 → Equal ≡ order (number x) (be (length x) s at)
-    compare_equal t =
-        sym (order_equal (rw all at
-        (tail_equal x s 0 at n (length x - n) (rw h at p.same) nothing (sym rest ∙ eqb-true _ _ (sym t)))))
-
-    pub compare_longer : false ≡ eqb (number (take (length x - n) (drop n x))) 0 → Greater ≡ order (number x) (be (length x) s at)
-    compare_longer t =
-        let m : 0 < be (length x - n) x (0 + n) = ⊎_elim (λ z. absurd (eqb-false _ _ (sym t) (rest ∙ le-zero z))) (λ z. z)
-        (le_or_lt (be (length x - n) x (0 + n)) 0) in
-        sym (order_greater _ _ (rw all at (tail_greater x s 0 at n (length x - n) (rw h at p.same) nothing m)))
-
--- what an order says of the numbers
-abbrev pub Says : ℕ → ℕ → Order → Type 0
-Says a b Less = a < b
-Says a b Equal = a ≡ b
-Says a b Greater = b < a
-
-says : (a b : ℕ) → Says a b (order a b)
-unfolding order rank
-says a b = go (ltb a b) (eqb a b) refl refl
+-- two numbers in parts: the higher parts decide, and where they are equal the lower ones do
+pub by_parts : (a b : ℕ) {c d p : ℕ} → c < p → d < p → nat_cmp (a * p + c) (b * p + d) ≡ ordering_then (nat_cmp a b) (nat_cmp c d)
+by_parts a b {c} {d} {p} h k = sym (nat_cmp_is _ _ _ (go (nat_cmp a b) (nat_cmp c d) (ranked a b _ refl) (ranked c d _ refl)))
   where
-    go : (t u : Bool) → ltb a b ≡ t → eqb a b ≡ u → Says a b (rank t u)
-    go true u p q = ltb-true a b p
-    go false true p q = eqb-true a b q
-    go false false p q = lt_of_le-ne (ltb-false a b p) (λ e. eqb-false a b q (sym e))
+    go : (r t : Ordering) → MatchOrdering r (a < b) (a ≡ b) (b < a) → MatchOrdering t (c < d) (c ≡ d) (d < c)
+        → MatchOrdering (ordering_then r t) (a * p + c < b * p + d) (a * p + c ≡ b * p + d) (b * p + d < a * p + c)
+    go Less t g i = omega (arith, digits_lt g h)
+    go Equal Less g i = rw g (omega arith)
+    go Equal Equal g i = rw (g, i) refl
+    go Equal Greater g i = rw g (omega arith)
+    go Greater t g i = omega (arith, digits_lt g k)
 
-pub told : (a b : ℕ) {r v : Order} → r ≡ order a b → r ≡ v → Says a b v
-told a b p q = subst (Says a b) (sym p ∙ q) (says a b)
+-- bytes compare as the numbers that they make
+pub by_numbers : (a b : List ℕ) → length a ≡ length b → Bytes a → Bytes b → slice_cmp nat_cmp a b ≡ nat_cmp (number a) (number b)
+unfolding be
+by_numbers [] [] e p q = refl
+by_numbers (x ∷ a) (y ∷ b) e p q =
+    let l : length a ≡ length b = omega arith in
+    let c : number a < 256 ^ length b = rw (← l) (be_below a (λ i. p (suc i)) (length a) 0) in
+    let d : number b < 256 ^ length b = be_below b (λ i. q (suc i)) (length b) 0 in
+    ap (ordering_then (nat_cmp x y)) (by_numbers a b l (λ i. p (suc i)) (λ i. q (suc i)))
+    ∙ sym (by_parts x y c d)
+    ∙ ap₂ nat_cmp (rw (← l) (sym (number_cons x a))) (sym (number_cons y b))
+by_numbers [] (y ∷ b) e p q = absurd (omega arith)
+by_numbers (x ∷ a) [] e p q = absurd (omega arith)
 
--- whether an order is Equal is whether the numbers are
-abbrev pub is_equal : Order → Bool
-is_equal Less = false
-is_equal Equal = true
-is_equal Greater = false
+-- x against what s has from `at` on: the first n bytes against as many, and then the rest of x against nothing
+module _ (x s r : List ℕ) (at n : ℕ) (d : r ≡ drop at s) (e : n ≡ min (length x) (length r)) where
+  long : length r ≡ length s - at
+  long = ap length d ∙ length-drop at s
 
-pub told_same : (a b : ℕ) {r v : Order} → r ≡ order a b → r ≡ v → is_equal v ≡ eqb a b
-told_same a b {r} {v} p q = go v (told a b p q)
-  where
-    go : (v : Order) → Says a b v → is_equal v ≡ eqb a b
-    go Less h = sym (ne_eqb a b (λ e. omega arith))
-    go Equal h = sym (eq-eqb a b h)
-    go Greater h = sym (ne_eqb a b (λ e. omega arith))
+  all : n + (length x - n) ≡ length x
+  all = omega arith
+
+  nothing : be (length x - n) s (at + n) ≡ 0
+  unfolding be
+  nothing =
+      ⊎_elim
+      (λ (g : at + n < length s). let z : length x - n ≡ 0 = omega (arith, long) in ap (λ (j : ℕ). be j s (at + n)) z)
+      (λ (g : length s ≤ at + n). be_past (length x - n) s (at + n) g)
+      (cases_lt (at + n) (length s))
+
+  of_x : be n x 0 * 256 ^ (length x - n) + be (length x - n) x n ≡ number x
+  of_x = ap (λ (k : ℕ). be n x 0 * 256 ^ (length x - n) + be (length x - n) x k) (sym (zero-add n)) ∙ sym (be_split n (length x - n) x 0)
+      ∙ ap (λ (k : ℕ). be k x 0) all
+
+  of_s : be n s at * 256 ^ (length x - n) + 0 ≡ be (length x) s at
+  of_s = ap (λ (k : ℕ). be n s at * 256 ^ (length x - n) + k) (sym nothing) ∙ sym (be_split n (length x - n) s at) ∙ ap (λ (k : ℕ). be k s at) all
+
+  pub compared : Bytes x → Bytes s
+      → ordering_then (slice_cmp nat_cmp (take n x) (take n r)) (nat_cmp (number (take (length x - n) (drop n x))) 0)
+      ≡ nat_cmp (number x) (be (length x) s at)
+  compared p q =
+      rw (
+        d,
+        by_numbers (take n x) (take n (drop at s)) (simp (length-take, length-drop) (omega (arith, long))) (bytes_part x 0 n p) (bytes_part s at n q),
+        number_part 0 n x (omega arith),
+        number_part at n s (omega (arith, long)),
+        number_part n (length x - n) x (omega arith),
+      ) (sym (by_parts (be n x 0) (be n s at) (be_below x p (length x - n) n) (one-le-pow (length x - n) 256 (omega arith))) ∙ ap₂ nat_cmp of_x of_s)

@@ -1,20 +1,16 @@
 -- The parent list: a list that is written from the front as a walk is followed, and the ways through the answer.
-use Prim.Native.Nat.{ℕ, zero, suc, ◌+◌, ◌≤◌, ◌<◌}
-use mathlib.Core.List.{List, [], ◌∷◌, ◌++◌, append-nil}
-use mathlib.Core.Path.{◌≡◌, refl, sym, ap, ◌∙◌}
-use native.Mathlib.Omega.{arith}
-use native.Mathlib.Numerals.{add-one}
-use lib.ListN.{length, set, take, drop, length-set, take-append-drop, drop_of_length-le}
-use lib.Seq.{take_all}
-use borrow.Author.Tests.{lt-ltb, le-ltb}
+use Rattle.std.proofs.Common.{ℕ, zero, suc, ◌+◌, ◌≤◌, ◌<◌, List, [], ◌∷◌, ◌++◌, append-nil, ◌≡◌, refl, sym, ap, ◌∙◌, arith, add-one, length, get_or}
+use Rattle.std.proofs.Common.{set, take, drop, length-set, take-append-drop, drop_of_length-le, take_all, lt-ltb, le-ltb, Result, Ok, Err}
+use Rattle.std.proofs.lemmas.List.{set-get_or}
+use Rattle.std.specs.Prelude.{⊤}
 use Rattle.words.specs.First.{◌if◌else◌}
 use Rattle.types.specs.Refusals.{refusal}
+use Rattle.types.specs.declared.refusal.Reason.{Reason}
 use Rattle.types.specs.declared.refusal.Refusal.{Refusal}
 use Rattle.file.specs.declared.File.{File}
 use Rattle.steps.specs.Walks.{Walked, ends, parent, positions}
 use Rattle.parents.specs.Walks.{walk_of, total_of}
 use Rattle.parents.specs.Lists.{overlay, fit_total, list_of, held_by, held_of}
-use Rattle.parents.specs.declared.Total.TheVariants.{Count as Whole, Refused as Short}
 
 -- one entry more
 over_set : (ps xs : List ℕ) (n p : ℕ) → n < length xs
@@ -45,29 +41,30 @@ module _ {whole : List ℕ} {w : Walked} {n : ℕ} {out : List ℕ} (f : Filling
       let g : take n out ++ overlay (p ∷ positions v) (drop n out) ≡ whole = rw e at f.rest in
       record { few = rw (length-set out n p) (omega arith); rest = rw add-one (sym (over_set (positions v) out n p h) ∙ g) }
 
-  pub fill_stops : {r : ℕ} → w ≡ ends r → out ≡ whole
+  -- the entry that is lent stays as it was
+  pub fill_stops : {r : Result ⊤ Reason} → w ≡ ends r → set out n (get_or out n 0) ≡ whole
   unfolding positions overlay
   fill_stops e =
       let g : take n out ++ drop n out ≡ whole = rw e at f.rest in
-      sym (take-append-drop n out) ∙ g
+      set-get_or out n 0 ∙ sym (take-append-drop n out) ∙ g
 
   pub fill_full : length out ≤ n → out ≡ whole
   fill_full h =
       let g : take n out ++ overlay (positions w) [] ≡ whole = rw (drop_of_length-le out h) at f.rest in
       sym (rw (over_none (positions w)) (append-nil _) ∙ take_all n out h) ∙ g
 
--- the ways through the answer and through what the list holds: v is what the count said
+-- the ways through the answer and through what the list holds
 module _ (l : List ℕ) (f : File) (i : ℕ) (xs : List ℕ) where
-  pub list_short : {r : Refusal} → Short r ≡ total_of l f i → (Short r ≡ list_of l f i (length xs)) × (xs ≡ held_of l f i xs)
+  pub list_short : {r : Refusal} → Err r ≡ total_of l f i → (Err r ≡ list_of l f i (length xs)) × (xs ≡ held_of l f i xs)
   unfolding list_of held_of held_by fit_total
   list_short e = (rw (← e), rw (← e))
 
-  module _ {n : ℕ} (e : Whole n ≡ total_of l f i) where
-    pub list_full : length xs < n → (Short (refusal 55 i) ≡ list_of l f i (length xs)) × (xs ≡ held_of l f i xs)
+  module _ {n : ℕ} (e : Ok n ≡ total_of l f i) where
+    pub list_full : length xs < n → (Err (refusal Reason.ListFull i) ≡ list_of l f i (length xs)) × (xs ≡ held_of l f i xs)
     unfolding list_of held_of held_by fit_total ◌if◌else◌
     list_full h = (rw (← e, lt-ltb (length xs) n h), rw (← e, lt-ltb (length xs) n h))
 
     pub list_whole : n ≤ length xs → {out : List ℕ} → out ≡ overlay (positions (walk_of l f i)) xs
-        → (Whole n ≡ list_of l f i (length xs)) × (out ≡ held_of l f i xs)
+        → (Ok n ≡ list_of l f i (length xs)) × (out ≡ held_of l f i xs)
     unfolding list_of held_of held_by fit_total ◌if◌else◌
     list_whole h d = (rw (← e, le-ltb (length xs) n h), d ∙ rw (← e, le-ltb (length xs) n h))

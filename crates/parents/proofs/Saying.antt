@@ -1,34 +1,29 @@
 -- What each answer says tells its cases and their values apart: a way back for each image.
-use Prim.Native.Nat.{ℕ, zero, suc}
-use mathlib.Core.List.{List, [], ◌∷◌}
-use mathlib.Core.Path.{◌≡◌, refl, ap₂}
-use lib.ListN.{get_or, drop}
+use Rattle.std.proofs.Common.{ℕ, zero, suc, List, [], ◌∷◌, ◌≡◌, refl, ap, ap₂, get_or, drop, Result, Ok, Err}
+use Rattle.std.specs.Prelude.{Option, Some, None}
 use Rattle.types.specs.Said.{Said}
 use Rattle.types.specs.declared.refusal.Refusal.{Refusal}
-use Rattle.types.proofs.Saying.{Back, refusal_of}
+use Rattle.types.proofs.Saying.{Back, refusal_of, refusal_back}
 use Rattle.parents.specs.Said.{answer_said, step_said, total_said}
-use Rattle.parents.specs.declared.Answer.{Answer}
-use Rattle.parents.specs.declared.Answer.TheVariants.{Parent, Refused, End}
 use Rattle.parents.specs.declared.Step.{Step}
-use Rattle.parents.specs.declared.Total.{Total}
-use Rattle.parents.specs.declared.Total.TheVariants.{Count, Refused as Short}
+use Rattle.steps.specs.declared.Parent.{Parent}
 use Rattle.steps.specs.declared.Phase.{Phase}
 use Rattle.steps.specs.Said.{phase_of}
 use Rattle.steps.proofs.Saying.{phase_again}
 
-abbrev pub answer_from : Refusal → List ℕ → Answer
-answer_from r [] = Refused r
-answer_from r (zero ∷ vs) = End
-answer_from r (suc t ∷ vs) = Parent (record { position = record { 0 = get_or vs 0 0 } })
+abbrev pub answer_from : Refusal → List ℕ → Result (Option Parent) Refusal
+answer_from r [] = Err r
+answer_from r (zero ∷ vs) = Ok None
+answer_from r (suc t ∷ vs) = Ok (Some (record { position = record { 0 = get_or vs 0 0 } }))
 
-abbrev answer_of_lem : Said → Answer
+abbrev answer_of_lem : Said → Result (Option Parent) Refusal
 answer_of_lem s = answer_from (refusal_of s) s.values
 
-pub answer_again : (a : Answer) → answer_of_lem (answer_said a) ≡ a
+pub answer_again : (a : Result (Option Parent) Refusal) → answer_of_lem (answer_said a) ≡ a
 unfolding answer_said
-answer_again (Parent q) = refl
-answer_again (Refused r) = refl
-answer_again End = refl
+answer_again (Ok (Some q)) = refl
+answer_again (Ok None) = refl
+answer_again (Err r) = ap Err (refusal_back r)
 
 pub answer_back : Back answer_said
 answer_back = record { of = answer_of_lem; back = answer_again }
@@ -39,22 +34,23 @@ step_of s =
 
 step_again : (a : Step) → step_of (step_said a) ≡ a
 unfolding step_said
-step_again a = ap₂ (λ (x : Answer) (p : Phase). record { answer = x; next = p }) (answer_again a.answer) (phase_again a.next)
+step_again a =
+    ap₂ (λ (x : Result (Option Parent) Refusal) (p : Phase). record { answer = x; next = p }) (answer_again a.answer) (phase_again a.next)
 
 pub step_back : Back step_said
 step_back = record { of = step_of; back = step_again }
 
-abbrev total_from : Refusal → List ℕ → Total
-total_from r [] = Short r
-total_from r (k ∷ vs) = Count k
+abbrev total_from : Refusal → List ℕ → Result ℕ Refusal
+total_from r [] = Err r
+total_from r (k ∷ vs) = Ok k
 
-abbrev total_of : Said → Total
+abbrev total_of : Said → Result ℕ Refusal
 total_of s = total_from (refusal_of s) s.values
 
-total_again : (a : Total) → total_of (total_said a) ≡ a
+total_again : (a : Result ℕ Refusal) → total_of (total_said a) ≡ a
 unfolding total_said
-total_again (Count n) = refl
-total_again (Short r) = refl
+total_again (Ok n) = refl
+total_again (Err r) = ap Err (refusal_back r)
 
 pub total_back : Back total_said
 total_back = record { of = total_of; back = total_again }

@@ -1,5 +1,5 @@
 -- Any two results that a public function's promise allows on the same arguments are equal. Made by tests/results.py.
-use mathlib.Core.Path.{refl}
+use Rattle.std.proofs.Common.{refl}
 use Rattle.words.proofs.Determined.{Determined}
 use Rattle.prints.proofs.print.print.Reads as print
 use Rattle.prints.proofs.print.number.Reads as number

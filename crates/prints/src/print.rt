@@ -13,22 +13,16 @@ pub fn number(n: u64) {
     io::print_decimal(STDOUT, n);
 }
 
-fn wide(x: u8) -> u64 {
-    x as u64
-}
-
 // Prints bytes as two digits each.
 pub fn hex(s: &[u8]) {
-    let mut i = 0;
-    while i < s.len() {
-        io::print_hex(STDOUT, wide(s[i]), 2);
-        i += 1;
+    for byte in s {
+        io::print_hex(STDOUT, u64::from(*byte), 2);
     }
 }
 
 pub fn refusal(r: Refusal) {
     print(b"refused");
-    number(r.number as u64);
-    number(r.file as u64);
+    number(u64::from(r.reason.number()));
+    number(u64::from(r.file));
     number(r.place);
 }

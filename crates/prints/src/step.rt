@@ -1,7 +1,7 @@
 // Words of a parent step: what it answers, and the phase of a walk.
 use super::print::{number, print, refusal};
-use parents::Answer;
-use steps::Phase;
+use steps::{Parent, Phase};
+use types::refusal::Refusal;
 
 pub fn phase(p: Phase) {
     match p {
@@ -15,13 +15,13 @@ pub fn phase(p: Phase) {
     }
 }
 
-pub fn answer(a: Answer) {
+pub fn answer(a: Result<Option<Parent>, Refusal>) {
     match a {
-        Answer::Parent(p) => {
+        Ok(Some(p)) => {
             print(b"parent");
-            number(p.position.0 as u64);
+            number(u64::from(p.position.0));
         }
-        Answer::Refused(r) => refusal(r),
-        Answer::End => print(b"end"),
+        Ok(None) => print(b"end"),
+        Err(r) => refusal(r),
     }
 }

@@ -6,7 +6,7 @@
 
 mod single;
 
-use cases::record::{read, room};
+use cases::record::each;
 use prints::print::print;
 use report::report;
 use single::single;
@@ -31,21 +31,6 @@ fn ask(kind: u8, input: &[u8]) -> bool {
     true
 }
 
-// Reads one record and answers it. Says whether there may be more.
-fn record() -> bool {
-    let mut bytes = room();
-    let r = read(&mut bytes);
-    if !r.there {
-        return false;
-    }
-    let n = r.size;
-    ask(r.kind, &bytes[..n])
-}
-
-// The turns are counted, for nothing says that the input ends.
 fn main() {
-    let mut turns = u64::MAX;
-    while turns > 0 && record() {
-        turns -= 1;
-    }
+    each(ask);
 }

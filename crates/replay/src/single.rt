@@ -1,10 +1,9 @@
 // The chain of an input as one file: its traversal, its trailer, and whether that is the digest.
-use access::Asking;
+use file::File;
 use file::init::open;
-use file::{File, Opening};
 use prints::print::{hex, number, print, refusal};
 use sums::{checksum, verify_checksum};
-use traverse::{Summary, Verdict, traverse};
+use traverse::{Summary, traverse};
 use types::refusal::Refusal;
 use words::big::be32;
 use words::part::part;
@@ -34,22 +33,18 @@ fn count(k: usize, n: u32) {
 }
 
 fn counted(counts: &[u32; 66]) {
-    let mut k = 0;
-    while k < 66 {
-        count(k, counts[k]);
-        k += 1;
+    for (k, n) in counts.iter().enumerate() {
+        count(k, *n);
     }
 }
 
 fn traversed(s: &[u8], list: &[u8]) {
     let t = traverse(s, list);
-    let verdict = t.verdict;
-    let counts = t.counts;
-    match verdict {
-        Verdict::Accepted(x) => summary(x),
-        Verdict::Refused(r) => refused(r),
+    match t.verdict {
+        Ok(x) => summary(x),
+        Err(r) => refused(r),
     }
-    counted(&counts);
+    counted(&t.counts);
 }
 
 fn trailer(s: &[u8], f: File) {
@@ -57,8 +52,8 @@ fn trailer(s: &[u8], f: File) {
     hex(checksum(s, f));
     print(b" ");
     match verify_checksum(s, f) {
-        Asking::Fine => print(b"right\n"),
-        Asking::Refused(r) => refused(r),
+        Ok(()) => print(b"right\n"),
+        Err(r) => refused(r),
     }
 }
 
@@ -71,7 +66,7 @@ pub fn single(input: &[u8]) {
     let s = &input[4 + size..];
     traversed(s, part(input, 4, size, 1));
     match open(s) {
-        Opening::Open(f) => trailer(s, f),
-        Opening::Refused(r) => refused(r),
+        Ok(f) => trailer(s, f),
+        Err(r) => refused(r),
     }
 }

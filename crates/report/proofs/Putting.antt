@@ -1,11 +1,7 @@
 -- Laws of texts that are written one behind the other.
-use Prim.Native.Nat.{ℕ, ◌+◌, ◌*◌, ◌≤◌}
-use mathlib.Core.List.{List, [], ◌++◌, append-nil, append_assoc}
-use mathlib.Core.Path.{◌≡◌, refl, sym, ap, ◌∙◌}
-use native.Mathlib.Omega.{arith}
-use native.Mathlib.Numerals.{add-one}
-use lib.ListN.{length, get_or, take, drop, length-append, take-append-drop}
-use lib.Seq.{take_at, drop-append-add, drop-drop, length-take-le, take-length}
+use Rattle.std.proofs.Common.{ℕ, ◌+◌, ◌*◌, ◌≤◌, List, [], ◌++◌, append-nil, append_assoc, ◌≡◌, refl, sym, ap, ◌∙◌, arith, add-one, length, get_or}
+use Rattle.std.proofs.Common.{take, drop, length-append, take-append-drop, take_at, drop-drop, length-take-le}
+use lib.Seq.{drop-append-add, take-length}
 use Rattle.text.specs.Text.{after, written}
 use Rattle.text.proofs.Places.{after_put, written_put, length_written}
 use Rattle.report.specs.Output.{count_line, count_lines}

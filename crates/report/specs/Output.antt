@@ -1,5 +1,6 @@
 -- What the program prints: document 01, from "The program prints one line" to "Any other input prints `unreadable`".
-use Rattle.std.specs.Prelude.{ℕ, zero, suc, ◌+◌, Bool, ◌&&◌, List, [], ◌∷◌, ◌++◌, ltb, leb, eqb, length, get_or, take, drop}
+use Rattle.std.specs.Prelude.{ℕ, zero, suc, ◌+◌, Bool, ◌&&◌, List, [], ◌∷◌, ◌++◌, ltb, leb, eqb, length, get_or}
+use Rattle.std.specs.Prelude.{take, drop, Option, Some, None, Result, Ok, Err}
 use Prim.Native.Char.{code}
 use Prim.Native.String.{String, [] as none, ◌∷◌ as ◌then◌}
 use Rattle.words.specs.First.{◌if◌else◌}
@@ -7,8 +8,9 @@ use Rattle.words.specs.Big.{be}
 use Rattle.text.specs.Text.{dec}
 use Rattle.audit.specs.declared.Length.{Length}
 use Rattle.audit.specs.declared.Length.TheVariants.{Steps, Cyclic}
-use Rattle.audit.specs.declared.Verdict.{Verdict}
-use Rattle.audit.specs.declared.Verdict.TheVariants.{Accepted, Refused}
+use Rattle.types.specs.Refusals.{number_of}
+use Rattle.types.specs.declared.refusal.Refusal.{Refusal}
+use Rattle.audit.specs.declared.Summary.{Summary}
 use Rattle.audit.specs.declared.Verification.{Verification}
 use Rattle.audit.specs.Rules.{verification}
 
@@ -48,9 +50,9 @@ count_lines counts zero = []
 count_lines counts (suc k) = count_lines counts k ++ count_line k (get_or counts k 0)
 
 -- the lines of an answer
-unfoldable pub answer_lines : Verdict → List ℕ → List ℕ
-answer_lines (Accepted s) counts = line "accepted" (dec s.commits ∷ length_word s.length ∷ []) ++ count_lines counts 66
-answer_lines (Refused r) counts = line "refused" (dec r.number ∷ dec r.file ∷ dec r.place ∷ [])
+unfoldable pub answer_lines : Result Summary Refusal → List ℕ → List ℕ
+answer_lines (Ok s) counts = line "accepted" (dec s.commits ∷ length_word s.length ∷ []) ++ count_lines counts 66
+answer_lines (Err r) counts = line "refused" (dec (number_of r.reason) ∷ dec r.file ∷ dec r.place ∷ [])
 
 -- ── the input ──
 
@@ -71,6 +73,10 @@ readable input =
     && leb (size_of input) 12288
     && leb (4 + size_of input) (length input)
     && leb (length (chain_of input)) 49152
+
+-- where the chain starts in an input that is read
+unfoldable pub chain_at : List ℕ → Option ℕ
+chain_at input = Some (4 + size_of input) if readable input else None
 
 abbrev pub verified : List ℕ → Verification
 verified input = verification 32 (chain_of input) (list_of input)

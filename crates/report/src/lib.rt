@@ -4,29 +4,32 @@
 mod lines;
 
 ghost use Rattle.std.specs.Prelude.{◌≡◌, ◌++◌, ◌≤◌, length, take, drop};
-ghost use Rattle.report.specs.Output.{readable, answer_lines, output_of};
+ghost use Rattle.report.specs.Output.{chain_at, answer_lines, output_of};
 ghost use Rattle.report.specs.Puts.{Puts};
 
-use audit::{Verdict, Verification};
+use audit::Verification;
 use lines::{accepted, count_lines, refused, word};
 use verify::verify;
 use words::big::be32;
 
-// The input has the parts that the program takes.
-fn parts(input: &[u8]) -> bool
-    ensures { result ≡ readable input.now }
+// Where the chain starts in an input that has the parts that the program takes.
+fn chain_start(input: &[u8]) -> Option<usize>
+    ensures { result ≡ chain_at input.now }
 {
     if input.len() < 4 {
-        return false;
+        return None;
     }
     let n = be32(input, 0) as usize;
     if 12_288 < n {
-        return false;
+        return None;
     }
     if input.len() < 4 + n {
-        return false;
+        return None;
     }
-    input.len() - (4 + n) <= 49_152
+    if 49_152 < input.len() - (4 + n) {
+        return None;
+    }
+    Some(4 + n)
 }
 
 // Writes the lines of an answer at the start of `out`; returns the place behind them.
@@ -34,15 +37,12 @@ fn answer(out: &mut [u8], v: Verification) -> usize
     requires { 4096 ≤ length out.old }
     ensures { Puts 4096 out.old 0 (answer_lines v.verdict v.counts) out.new result }
 {
-    let verdict = v.verdict;
-    match verdict {
-        Verdict::Accepted(s) => {
-            let length = s.length;
-            let at = accepted(out, 0, s.commits, length);
-            let counts = v.counts;
-            count_lines(out, at, &counts)
+    match v.verdict {
+        Ok(summary) => {
+            let at = accepted(out, 0, summary.commits, summary.length);
+            count_lines(out, at, &v.counts)
         }
-        Verdict::Refused(r) => refused(out, 0, r),
+        Err(refusal) => refused(out, 0, refusal),
     }
 }
 
@@ -52,9 +52,8 @@ pub fn report(input: &[u8], out: &mut [u8; 4096]) -> usize
     ensures holds { out.new ≡ output_of input.now ++ drop (length (output_of input.now)) out.old }
     ensures part { (result ≤ length out.new) × (result ≡ length (take result out.new)) }
 {
-    if parts(input) {
-        let from = 4 + (be32(input, 0) as usize);
-        return answer(out, verify(&input[from..], &input[4..from]));
+    match chain_start(input) {
+        Some(from) => answer(out, verify(&input[from..], &input[4..from])),
+        None => word(out, 0, b"unreadable\n"),
     }
-    word(out, 0, b"unreadable\n")
 }

@@ -1,5 +1,6 @@
 // The lines of an answer, each written at a place of a buffer that has room for it.
 ghost use Rattle.std.specs.Prelude.{[], ◌∷◌, ◌++◌, ◌+◌, ◌≤◌, length};
+ghost use Rattle.types.specs.Refusals.{number_of};
 ghost use Rattle.text.specs.Text.{dec};
 ghost use Rattle.report.specs.Output.{ascii, line, length_word, key_word, count_line, count_lines};
 ghost use Rattle.report.specs.Puts.{Puts};
@@ -61,10 +62,10 @@ pub(crate) fn accepted(out: &mut [u8], at: usize, n: u32, l: Length) -> usize
 // The line of a refusal.
 pub(crate) fn refused(out: &mut [u8], at: usize, x: Refusal) -> usize
     requires { at + 71 ≤ length out.old }
-    ensures { Puts 71 out.old at (line "refused" (dec x.number ∷ dec x.file ∷ dec x.place ∷ [])) out.new result }
+    ensures { Puts 71 out.old at (line "refused" (dec (number_of x.reason) ∷ dec x.file ∷ dec x.place ∷ [])) out.new result }
 {
     let a = word(out, at, b"refused");
-    let b = figure(out, a, x.number as u64);
+    let b = figure(out, a, x.reason.number() as u64);
     let c = figure(out, b, x.file as u64);
     let d = figure(out, c, x.place);
     word(out, d, b"\n")
@@ -90,10 +91,8 @@ pub(crate) fn count_lines(out: &mut [u8], at: usize, counts: &[u32; 66]) -> usiz
     ensures { Puts 3300 out.old at (count_lines counts.now 66) out.new result }
 {
     let mut next = at;
-    let mut k = 0;
-    while k < 66 {
-        next = count_line(out, next, k, counts[k]);
-        k += 1;
+    for (k, n) in counts.iter().enumerate() {
+        next = count_line(out, next, k, *n);
     }
     next
 }

@@ -1,4 +1,4 @@
-// Refusals 62 to 67: the trailer, the name, and a commit's entry. Each is a number, or 0 for none.
+// Refusals 62 to 67: the trailer, the name, and a commit's entry.
 #![tactic(auto)]
 
 ghost use Rattle.std.specs.Prelude.{◌≡◌, true, not, ◌+◌, ◌-◌, ◌*◌, ◌≤◌, ◌<◌, eqb, leb, ltb, length, take};
@@ -12,8 +12,8 @@ ghost use Rattle.rules.specs.Rules.{trailer_of, sum_in, name_in, id_rule, bucket
 
 use digest::sha1;
 use list::{claims, count, kind_at};
-use order::{Order, compare, same, zero};
-use types::refusal::{CHECKSUM, ID_BUCKET, ID_ORDER, ID_ZERO, NAME, POSITION, TREE_ZERO};
+use order::{compare, same, zero};
+use types::refusal::Reason;
 use types::width::known;
 use words::big::be32;
 use words::part::part;
@@ -36,142 +36,103 @@ fn digest(s: &[u8], w: usize) -> [u8; 20]
 }
 
 // Refusal 62.
-pub fn sum_in(s: &[u8], w: usize) -> u32
+#[tactic(auto, using(crate::proofs::Trailers::trailers), unfolding(crate::specs::Rules::sum_in, crate::specs::Rules::sum_rule))]
+pub fn sum_in(s: &[u8], w: usize) -> Result<(), Reason>
     ensures { result ≡ sum_in w s.now }
 {
-    if w != 20 {
-        return POSITION;
-    }
-    if s.len() < w {
-        return POSITION;
+    if w != 20 || s.len() < w {
+        return Err(Reason::Position);
     }
     let d = digest(s, w);
     if !same(&d, s, s.len() - w) {
-        return CHECKSUM;
+        return Err(Reason::Checksum);
     }
-    0
-}
-
-// The hash that record `k` claims is not the trailer.
-fn other(list: &[u8], z: u32, k: u32, s: &[u8], w: usize) -> bool
-    requires { (w ≡ 20) × (w ≤ length s.now) }
-    ensures { result ≡ not (eqb (claim_at z list.now k) (trailer_of w s.now)) }
-{
-    !claims(list, z, k, trailer(s, w))
+    Ok(())
 }
 
 // Refusal 63 of the file `s` that record `k` of the list names.
-pub fn name_in(list: &[u8], z: u32, k: u32, s: &[u8], w: usize) -> u32
+#[tactic(auto, using(crate::proofs::Trailers::trailers), unfolding(crate::specs::Rules::name_in, crate::specs::Rules::name_rule))]
+pub fn name_in(list: &[u8], z: u32, k: u32, s: &[u8], w: usize) -> Result<(), Reason>
     ensures { result ≡ name_in w z list.now k s.now }
 {
-    if count(list, z) <= k as usize {
-        return POSITION;
-    }
-    if w != 20 {
-        return POSITION;
-    }
-    if s.len() < w {
-        return POSITION;
+    if count(list, z) <= k as usize || w != 20 || s.len() < w {
+        return Err(Reason::Position);
     }
     let kind = kind_at(list, z, k);
-    if kind == 2 {
-        return NAME;
+    if kind == 2 || (kind == 1 && !claims(list, z, k, trailer(s, w))) {
+        return Err(Reason::Name);
     }
-    if kind == 1 {
-        if other(list, z, k, s, w) {
-            return NAME;
-        }
-    }
-    0
+    Ok(())
 }
 
 // `x` is above the run of as many bytes at `at`.
 fn above(x: &[u8], ids: &[u8], at: usize) -> bool
     ensures { result ≡ not (leb (number x.now) (be (length x.now) ids.now at)) }
 {
-    match compare(x, ids, at) {
-        Order::Less => false,
-        Order::Equal => false,
-        Order::Greater => true,
-    }
+    compare(x, ids, at).is_gt()
 }
 
 // Refusals 64 and 65 of id `c`.
-fn id_rule(ids: &[u8], w: usize, c: u32) -> u32
+#[tactic(auto, using(crate::proofs::Entries::ids), unfolding(crate::specs::Rules::id_rule))]
+fn id_rule(ids: &[u8], w: usize, c: u32) -> Result<(), Reason>
     requires { (known w ≡ true) × (c * w + w ≤ length ids.now) }
     ensures { result ≡ id_rule w ids.now c }
 {
     let at = (c as usize) * w;
     let id = part(ids, at, w, 1);
     if zero(id) {
-        return ID_ZERO;
+        return Err(Reason::IdZero);
     }
-    if 0 < c {
-        if !above(id, ids, at - w) {
-            return ID_ORDER;
-        }
+    if 0 < c && !above(id, ids, at - w) {
+        return Err(Reason::IdOrder);
     }
-    0
+    Ok(())
 }
 
 // Position `c` comes before the fan bucket of first byte `b`.
+#[tactic(auto, using(access::proofs::Halving::lower_zero, access::proofs::Halving::lower_is, words::proofs::Rows::rows))]
 fn early(fan: &[u8], b: u8, c: u32) -> bool
     ensures { result ≡ ltb c (lower fan.now b) }
 {
-    if b == 0 {
-        return false;
-    }
-    c < be32(fan, 4 * ((b as usize) - 1))
+    0 < b && c < be32(fan, 4 * ((b as usize) - 1))
 }
 
 // Refusal 66 of first byte `b` at position `c`.
-fn bucket_rule(fan: &[u8], b: u8, c: u32) -> u32
+#[tactic(auto, using(words::proofs::Rows::rows), unfolding(crate::specs::Rules::bucket_rule))]
+fn bucket_rule(fan: &[u8], b: u8, c: u32) -> Result<(), Reason>
     ensures { result ≡ bucket_rule fan.now b c }
 {
-    if early(fan, b, c) {
-        return ID_BUCKET;
+    if early(fan, b, c) || be32(fan, 4 * (b as usize)) <= c {
+        return Err(Reason::IdBucket);
     }
-    if be32(fan, 4 * (b as usize)) <= c {
-        return ID_BUCKET;
-    }
-    0
+    Ok(())
 }
 
 // Refusal 67 of entry `c`.
-fn tree_rule(rows: &[u8], w: usize, c: u32) -> u32
+#[tactic(auto, using(crate::proofs::Entries::zero_said, words::proofs::Rows::rows), unfolding(crate::specs::Rules::tree_rule))]
+fn tree_rule(rows: &[u8], w: usize, c: u32) -> Result<(), Reason>
     requires { (known w ≡ true) × (c * (w + 16) + (w + 16) ≤ length rows.now) }
     ensures { result ≡ tree_rule w rows.now c }
 {
     if zero(part(rows, (c as usize) * (w + 16), w, 1)) {
-        return TREE_ZERO;
+        return Err(Reason::TreeZero);
     }
-    0
+    Ok(())
 }
 
 // Refusals 64 to 67 of entry `c` of the chunks OIDF, OIDL and CDAT, by their own parts.
-pub fn entry_in(fan: &[u8], ids: &[u8], rows: &[u8], w: usize, c: u32) -> u32
+#[tactic(auto, using(crate::proofs::Entries::entries), unfolding(crate::specs::Rules::entry_in, crate::specs::Rules::entry_rule, words::specs::First::refuse))]
+pub fn entry_in(fan: &[u8], ids: &[u8], rows: &[u8], w: usize, c: u32) -> Result<(), Reason>
     ensures { result ≡ entry_in w fan.now ids.now rows.now c }
 {
-    if !known(w) {
-        return POSITION;
-    }
-    if fan.len() < 1024 {
-        return POSITION;
+    if !known(w) || fan.len() < 1024 {
+        return Err(Reason::Position);
     }
     let i = c as usize;
-    if ids.len() < i * w + w {
-        return POSITION;
+    if ids.len() < i * w + w || rows.len() < i * (w + 16) + (w + 16) {
+        return Err(Reason::Position);
     }
-    if rows.len() < i * (w + 16) + (w + 16) {
-        return POSITION;
-    }
-    let m = id_rule(ids, w, c);
-    if 0 < m {
-        return m;
-    }
-    let b = bucket_rule(fan, ids[i * w], c);
-    if 0 < b {
-        return b;
-    }
+    id_rule(ids, w, c)?;
+    bucket_rule(fan, ids[i * w], c)?;
     tree_rule(rows, w, c)
 }

@@ -1,21 +1,17 @@
 -- What each answer says tells its cases and their values apart: a way back for each image.
-use Prim.Native.Nat.{ℕ, zero, suc}
-use mathlib.Core.List.{List, [], ◌∷◌}
-use mathlib.Core.Path.{◌≡◌, refl, ap₂}
-use lib.ListN.{get_or, drop}
+use Rattle.std.proofs.Common.{ℕ, zero, suc, List, [], ◌∷◌, ◌≡◌, refl, ap, ap₂, get_or, drop, Result, Ok, Err}
+use Rattle.std.specs.Prelude.{Option, Some, None}
 use Rattle.words.specs.First.{◌if◌else◌}
 use Rattle.types.specs.Said.{Said}
-use Rattle.types.proofs.Saying.{Back}
+use Rattle.types.specs.declared.refusal.Reason.{Reason}
+use Rattle.types.proofs.Saying.{Back, reason_of, reason_back}
 use Rattle.steps.specs.Said.{extra_said, phase_kind, phase_edge, phase_said, phase_of, met_said, next_said, counted_said}
 use Rattle.steps.specs.declared.ExtraEdge.{ExtraEdge}
 use Rattle.steps.specs.declared.ExtraEdge.TheVariants.{Internal, Last}
 use Rattle.steps.specs.declared.Phase.{Phase}
 use Rattle.steps.specs.declared.Phase.TheVariants.{First, Second, Edge, Exhausted}
-use Rattle.steps.specs.declared.Met.{Met}
-use Rattle.steps.specs.declared.Met.TheVariants.{Parent, Refused, End}
+use Rattle.steps.specs.declared.Parent.{Parent}
 use Rattle.steps.specs.declared.Next.{Next}
-use Rattle.steps.specs.declared.Counted.{Counted}
-use Rattle.steps.specs.declared.Counted.TheVariants.{Count, Refused as Stopped}
 
 abbrev extra_from : ℕ → ℕ → ExtraEdge
 extra_from zero x = Internal (record { 0 = x })
@@ -45,19 +41,19 @@ phase_again Exhausted = refl
 pub phase_back : Back phase_said
 phase_back = record { of = phase_of_lem; back = phase_again }
 
-abbrev met_from : ℕ → List ℕ → Met
-met_from n [] = Refused n
-met_from n (zero ∷ vs) = End
-met_from n (suc t ∷ vs) = Parent (record { position = record { 0 = get_or vs 0 0 } })
+abbrev met_from : ℕ → List ℕ → Result (Option Parent) Reason
+met_from n [] = Err (reason_of n)
+met_from n (zero ∷ vs) = Ok None
+met_from n (suc t ∷ vs) = Ok (Some (record { position = record { 0 = get_or vs 0 0 } }))
 
-abbrev met_of_lem : Said → Met
+abbrev met_of_lem : Said → Result (Option Parent) Reason
 met_of_lem s = met_from s.number s.values
 
-met_again : (a : Met) → met_of_lem (met_said a) ≡ a
+met_again : (a : Result (Option Parent) Reason) → met_of_lem (met_said a) ≡ a
 unfolding met_said
-met_again (Parent q) = refl
-met_again (Refused n) = refl
-met_again End = refl
+met_again (Ok (Some q)) = refl
+met_again (Ok None) = refl
+met_again (Err e) = ap Err (reason_back e)
 
 pub met_back : Back met_said
 met_back = record { of = met_of_lem; back = met_again }
@@ -68,22 +64,23 @@ next_of s =
 
 next_again : (a : Next) → next_of (next_said a) ≡ a
 unfolding next_said
-next_again a = ap₂ (λ (m : Met) (p : Phase). record { met = m; phase = p }) (met_again a.met) (phase_again a.phase)
+next_again a =
+    ap₂ (λ (m : Result (Option Parent) Reason) (p : Phase). record { met = m; phase = p }) (met_again a.met) (phase_again a.phase)
 
 pub next_back : Back next_said
 next_back = record { of = next_of; back = next_again }
 
-abbrev counted_from : ℕ → List ℕ → Counted
-counted_from n [] = Stopped n
-counted_from n (k ∷ vs) = Count k
+abbrev counted_from : ℕ → List ℕ → Result ℕ Reason
+counted_from n [] = Err (reason_of n)
+counted_from n (k ∷ vs) = Ok k
 
-abbrev counted_of : Said → Counted
+abbrev counted_of : Said → Result ℕ Reason
 counted_of s = counted_from s.number s.values
 
-counted_again : (a : Counted) → counted_of (counted_said a) ≡ a
+counted_again : (a : Result ℕ Reason) → counted_of (counted_said a) ≡ a
 unfolding counted_said
-counted_again (Count n) = refl
-counted_again (Stopped n) = refl
+counted_again (Ok n) = refl
+counted_again (Err e) = ap Err (reason_back e)
 
 pub counted_back : Back counted_said
 counted_back = record { of = counted_of; back = counted_again }

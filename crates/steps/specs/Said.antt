@@ -1,16 +1,14 @@
--- What each case of `ExtraEdge`, `Phase`, `Met` and `Counted` says, and a step: a phase is its kind, 0 to 3, and its EDGE number.
-use Rattle.std.specs.Prelude.{ℕ, [], ◌∷◌, eqb}
+-- What each case of `ExtraEdge` and `Phase` says, what a step meets, a step and a count: a phase is its kind, 0 to 3, and its EDGE number.
+use Rattle.std.specs.Prelude.{ℕ, [], ◌∷◌, eqb, Option, Some, None, Result, Ok, Err}
 use Rattle.words.specs.First.{◌if◌else◌}
 use Rattle.types.specs.Said.{Said, says, refuses, beside}
 use Rattle.steps.specs.declared.ExtraEdge.{ExtraEdge}
 use Rattle.steps.specs.declared.ExtraEdge.TheVariants.{Internal, Last}
 use Rattle.steps.specs.declared.Phase.{Phase}
 use Rattle.steps.specs.declared.Phase.TheVariants.{First, Second, Edge, Exhausted}
-use Rattle.steps.specs.declared.Met.{Met}
-use Rattle.steps.specs.declared.Met.TheVariants.{Parent, Refused, End}
+use Rattle.steps.specs.declared.Parent.{Parent}
+use Rattle.types.specs.declared.refusal.Reason.{Reason}
 use Rattle.steps.specs.declared.Next.{Next}
-use Rattle.steps.specs.declared.Counted.{Counted}
-use Rattle.steps.specs.declared.Counted.TheVariants.{Count, Refused as Stopped}
 use Rattle.types.specs.Refusals.{refusal}
 
 unfoldable pub extra_said : ExtraEdge → Said
@@ -40,16 +38,16 @@ phase_of n edge =
     Edge edge if eqb n 2 else
     Exhausted
 
--- a refusal here has a number alone
-unfoldable pub met_said : Met → Said
-met_said (Parent q) = says 1 (q.position.0 ∷ [])
-met_said (Refused n) = refuses (refusal n 0)
-met_said End = says 0 []
+-- a refusal here has a reason alone
+unfoldable pub met_said : Result (Option Parent) Reason → Said
+met_said (Ok (Some q)) = says 1 (q.position.0 ∷ [])
+met_said (Err e) = refuses (refusal e 0)
+met_said (Ok None) = says 0 []
 
 -- what was met, with the phase after it
 unfoldable pub next_said : Next → Said
 next_said x = beside (phase_kind x.phase) (phase_edge x.phase ∷ (met_said x.met).values) (met_said x.met)
 
-unfoldable pub counted_said : Counted → Said
-counted_said (Count n) = says n []
-counted_said (Stopped n) = refuses (refusal n 0)
+unfoldable pub counted_said : Result ℕ Reason → Said
+counted_said (Ok n) = says n []
+counted_said (Err e) = refuses (refusal e 0)

@@ -5,11 +5,11 @@ ghost use Rattle.std.specs.Prelude.{◌≡◌};
 ghost use Rattle.types.specs.Said.{Answers};
 ghost use Rattle.steps.specs.Said.{phase_of, next_said, counted_said, phase_said};
 ghost use Rattle.steps.specs.Walks.{
+  shown,
   extra_of,
   stop,
   done,
   onward,
-  edge_rule,
   edge_next,
   second_next,
   first_next,
@@ -19,7 +19,7 @@ ghost use Rattle.steps.specs.Walks.{
 
 use commit::ParentEdge;
 use types::graph::Position;
-use types::refusal::{EDGE_CUT, EDGE_MISSING, EDGE_OUT, FIRST_EDGE, SECOND_ALONE};
+use types::refusal::Reason;
 use words::big::be32;
 
 // An EDGE word: a position with more to follow, or the last.
@@ -43,42 +43,27 @@ pub struct Parent {
     pub position: Position,
 }
 
-// What a step meets: a parent, a refusal by its number, or the end; and the phase after it.
-#[derive(Clone, Copy)]
-pub enum Met {
-    Parent(Parent),
-    Refused(u32),
-    End,
-}
-
+// What a step meets, a parent or the end (`None`), and the phase after it.
 #[derive(Clone, Copy)]
 pub struct Next {
-    pub met: Met,
+    pub met: Result<Option<Parent>, Reason>,
     pub phase: Phase,
 }
 
-#[derive(Clone, Copy)]
-pub enum Counted {
-    Count(usize),
-    Refused(u32),
-}
-
 // The phase of a number and an EDGE number; a number that is none of a phase counts as exhausted.
+#[tactic(auto, using(words::proofs::Rows::rows, types::proofs::Saying::answers), unfolding(crate::specs::Said::phase_of))]
 pub fn phase_of(kind: u32, k: usize) -> Phase
     ensures { Answers phase_said result (phase_of kind k) }
 {
-    if kind == 0 {
-        return Phase::First;
+    match kind {
+        0 => Phase::First,
+        1 => Phase::Second,
+        2 => Phase::Edge(k),
+        _ => Phase::Exhausted,
     }
-    if kind == 1 {
-        return Phase::Second;
-    }
-    if kind == 2 {
-        return Phase::Edge(k);
-    }
-    Phase::Exhausted
 }
 
+#[tactic(auto, using(words::proofs::Rows::rows), unfolding(crate::specs::Walks::extra_of))]
 fn extra_edge(raw: u32) -> ExtraEdge
     ensures { result ≡ extra_of raw }
 {
@@ -88,11 +73,11 @@ fn extra_edge(raw: u32) -> ExtraEdge
     ExtraEdge::Internal(Position(raw))
 }
 
-fn refused(number: u32) -> Next
-    ensures { result ≡ stop number }
+fn refused(reason: Reason) -> Next
+    ensures { result ≡ stop reason }
 {
     Next {
-        met: Met::Refused(number),
+        met: Err(reason),
         phase: Phase::Exhausted,
     }
 }
@@ -101,7 +86,7 @@ fn ended() -> Next
     ensures { result ≡ done }
 {
     Next {
-        met: Met::End,
+        met: Ok(None),
         phase: Phase::Exhausted,
     }
 }
@@ -110,109 +95,79 @@ fn went(position: Position, phase: Phase) -> Next
     ensures { result ≡ onward position phase }
 {
     Next {
-        met: Met::Parent(Parent { position }),
+        met: Ok(Some(Parent { position })),
         phase,
     }
 }
 
-// Refusals 52 to 54 of EDGE number `k`, or 0.
-fn edge_rule(edge: &[u8], there: bool, k: usize) -> u32
-    ensures { result ≡ edge_rule there edge.now k }
+// A step at EDGE number `k`.
+#[tactic(auto, using(words::proofs::Rows::rows), unfolding(crate::specs::Walks::edge_next, crate::specs::Walks::edge_rule, words::specs::First::refuse))]
+fn edge_step(edge: Option<&[u8]>, k: usize) -> Next
+    ensures { result ≡ edge_next (shown edge.entry) k }
 {
-    if !there {
-        return EDGE_MISSING;
+    let Some(bytes) = edge else {
+        return refused(Reason::EdgeMissing);
+    };
+    if bytes.len().div_ceil(4) <= k {
+        return refused(Reason::EdgeOut);
     }
-    if edge.len() / 4 < k {
-        return EDGE_OUT;
+    if bytes.len() < 4 * k + 4 {
+        return refused(Reason::EdgeCut);
     }
-    if edge.len() <= 4 * k {
-        return EDGE_OUT;
-    }
-    if edge.len() < 4 * k + 4 {
-        return EDGE_CUT;
-    }
-    0
-}
-
-fn edge_step(edge: &[u8], there: bool, k: usize) -> Next
-    ensures { result ≡ edge_next there edge.now k }
-{
-    let m = edge_rule(edge, there, k);
-    if 0 < m {
-        return refused(m);
-    }
-    match extra_edge(be32(edge, 4 * k)) {
+    match extra_edge(be32(bytes, 4 * k)) {
         ExtraEdge::Last(p) => went(p, Phase::Exhausted),
-        ExtraEdge::Internal(p) => {
-            let n = k + 1;
-            went(p, Phase::Edge(n))
-        }
+        ExtraEdge::Internal(p) => went(p, Phase::Edge(k + 1)),
     }
 }
 
-fn second_step(second: ParentEdge, edge: &[u8], there: bool) -> Next
-    ensures { result ≡ second_next there edge.now second }
+#[tactic(auto, unfolding(crate::specs::Walks::second_next))]
+fn second_step(second: ParentEdge, edge: Option<&[u8]>) -> Next
+    ensures { result ≡ second_next (shown edge.entry) second }
 {
     match second {
         ParentEdge::None => ended(),
         ParentEdge::GraphPosition(p) => went(p, Phase::Exhausted),
-        ParentEdge::ExtraEdgeIndex(k) => edge_step(edge, there, k as usize),
+        ParentEdge::ExtraEdgeIndex(k) => edge_step(edge, k as usize),
     }
 }
 
+#[tactic(auto, unfolding(crate::specs::Walks::first_next, crate::specs::Walks::alone_next))]
 fn first_step(first: ParentEdge, second: ParentEdge) -> Next
     ensures { result ≡ first_next first second }
 {
-    match first {
-        ParentEdge::None => match second {
-            ParentEdge::None => ended(),
-            ParentEdge::GraphPosition(_) => refused(SECOND_ALONE),
-            ParentEdge::ExtraEdgeIndex(_) => refused(SECOND_ALONE),
-        },
-        ParentEdge::GraphPosition(p) => went(p, Phase::Second),
-        ParentEdge::ExtraEdgeIndex(_) => refused(FIRST_EDGE),
+    match (first, second) {
+        (ParentEdge::None, ParentEdge::None) => ended(),
+        (ParentEdge::None, _) => refused(Reason::SecondAlone),
+        (ParentEdge::GraphPosition(p), _) => went(p, Phase::Second),
+        (ParentEdge::ExtraEdgeIndex(_), _) => refused(Reason::FirstEdge),
     }
 }
 
-// One step of a commit with these two parent words, by the EDGE chunk's own part and whether there is such a chunk.
-pub fn step_in(
-    first: ParentEdge,
-    second: ParentEdge,
-    edge: &[u8],
-    there: bool,
-    phase: Phase,
-) -> Next
-    ensures { Answers next_said result (next_of first second there edge.now phase) }
+// One step of a commit with these two parent words, by the EDGE chunk's own part, where there is one.
+#[tactic(auto, using(types::proofs::Saying::answers), unfolding(crate::specs::Walks::next_of))]
+pub fn step_in(first: ParentEdge, second: ParentEdge, edge: Option<&[u8]>, phase: Phase) -> Next
+    ensures { Answers next_said result (next_of first second (shown edge.entry) phase) }
 {
     match phase {
         Phase::First => first_step(first, second),
-        Phase::Second => second_step(second, edge, there),
-        Phase::Edge(k) => edge_step(edge, there, k),
+        Phase::Second => second_step(second, edge),
+        Phase::Edge(k) => edge_step(edge, k),
         Phase::Exhausted => ended(),
     }
 }
 
-// How many parents the walk meets, or the refusal it meets.
-pub fn count_in(first: ParentEdge, second: ParentEdge, edge: &[u8], there: bool) -> Counted
-    ensures { Answers counted_said result (count_of first second there edge.now) }
+// How many parents the walk meets, or the refusal it meets. A `loop`: only the walk itself says how many steps it has, so there is no range.
+pub fn count_in(first: ParentEdge, second: ParentEdge, edge: Option<&[u8]>) -> Result<usize, Reason>
+    ensures { Answers counted_said result (count_of first second (shown edge.entry)) }
 {
     let mut phase = Phase::First;
     let mut n = 0;
     loop {
-        let x = step_in(first, second, edge, there, phase);
-        let met = x.met;
-        let p = x.phase;
-        match met {
-            Met::Parent(_) => {
-                n += 1;
-                phase = p;
-            }
-            Met::Refused(m) => {
-                return Counted::Refused(m);
-            }
-            Met::End => {
-                return Counted::Count(n);
-            }
+        let step = step_in(first, second, edge, phase);
+        match step.met? {
+            None => return Ok(n),
+            Some(_) => n += 1,
         }
+        phase = step.phase;
     }
 }

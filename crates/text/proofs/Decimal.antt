@@ -1,13 +1,8 @@
 -- Laws of numbers in decimal: the two equations of dec, its length, how to compute it, and examples.
-use Prim.Native.Nat.{ℕ, zero, suc, ◌+◌, ◌/◌, ◌%◌, ◌^◌, ◌≤◌, ◌<◌}
-use mathlib.Core.List.{[], ◌∷◌, ◌++◌}
-use mathlib.Core.Path.{◌≡◌, refl}
-use mathlib.Core.Logic.{⊎_elim}
-use native.Mathlib.Omega.{arith}
-use borrow.Author.Tests.{lt-ltb, le-ltb}
-use lib.ListN.{length, length-append}
+use Rattle.std.proofs.Common.{ℕ, zero, suc, ◌+◌, ◌/◌, ◌%◌, ◌^◌, ◌≤◌, ◌<◌, [], ◌∷◌, ◌++◌, ◌≡◌, refl, ⊎_elim, arith, lt-ltb, le-ltb, length}
+use Rattle.std.proofs.Common.{length-append}
 use Rattle.words.specs.First.{◌if◌else◌}
-use Rattle.words.proofs.Numbers.{le_or_lt}
+use Rattle.std.proofs.lemmas.Bool.{cases_lt}
 use Rattle.text.specs.Text.{digits, dec}
 
 -- more digits than are needed change nothing
@@ -18,9 +13,9 @@ enough zero (suc j) n h g = rw (lt-ltb n 10 (omega arith))
 enough (suc k) zero n h g = rw (lt-ltb n 10 (omega arith))
 enough (suc k) (suc j) n h g =
     ⊎_elim
-    (λ (e : 10 ≤ n). rw (enough k j (n / 10) (omega arith) (omega arith)))
     (λ (e : n < 10). rw (lt-ltb n 10 e))
-    (le_or_lt 10 n)
+    (λ (e : 10 ≤ n). rw (enough k j (n / 10) (omega arith) (omega arith)))
+    (cases_lt n 10)
 
 below : (n : ℕ) → n < 10 ^ suc n
 below zero = omega arith
@@ -48,9 +43,9 @@ unfolding digits ◌if◌else◌
 digits_length zero n = omega arith
 digits_length (suc k) n =
     ⊎_elim
-    (λ (e : 10 ≤ n). rw (le-ltb n 10 e) (simp length-append (omega (arith, digits_length k (n / 10)))))
     (λ (e : n < 10). rw (lt-ltb n 10 e) (omega arith))
-    (le_or_lt 10 n)
+    (λ (e : 10 ≤ n). rw (le-ltb n 10 e) (simp length-append (omega (arith, digits_length k (n / 10)))))
+    (cases_lt n 10)
 
 pub dec_length : (n : ℕ) → n < 18446744073709551616 → length (dec n) ≤ 20
 dec_length n h = rw (dec_in 19 n (omega arith)) (digits_length 19 n)
@@ -61,9 +56,9 @@ dec_length_32 n h = rw (dec_in 9 n (omega arith)) (digits_length 9 n)
 pub dec_some : (n : ℕ) → 0 < length (dec n)
 dec_some n =
     ⊎_elim
-    (λ (e : 10 ≤ n). rw (dec_more n e) (simp length-append (omega arith)))
     (λ (e : n < 10). rw (dec_small n e) (omega arith))
-    (le_or_lt 10 n)
+    (λ (e : 10 ≤ n). rw (dec_more n e) (simp length-append (omega arith)))
+    (cases_lt n 10)
 
 -- "0", "7", "10", "1073741823"
 dec_0 : dec 0 ≡ 48 ∷ []

@@ -9,18 +9,12 @@ pub fn put(out: &mut [u8], at: usize, s: &[u8]) -> usize
     ensures place { result ≡ after (length out.old) at s.now }
     ensures holds { out.new ≡ written out.old at s.now }
 {
-    if out.len() < at {
+    let end = at.saturating_add(s.len());
+    if out.len() < end {
         return at;
     }
-    if out.len() - at < s.len() {
-        return at;
-    }
-    let mut i = 0;
-    while i < s.len() {
-        out[at + i] = s[i];
-        i += 1;
-    }
-    at + s.len()
+    out[at..end].copy_from_slice(s);
+    end
 }
 
 // The ASCII code of a digit.
@@ -28,7 +22,7 @@ fn digit(x: u64) -> u8
     requires { x < 10 }
     ensures { result ≡ 48 + x }
 {
-    48 + (x as u8)
+    b'0' + (x as u8)
 }
 
 // Writes `n` in decimal at the place `at` of `out`; returns the place behind it. A u64 has at most 20 digits.
@@ -36,12 +30,13 @@ pub fn number(out: &mut [u8], at: usize, n: u64) -> usize
     ensures place { result ≡ after (length out.old) at (dec n) }
     ensures holds { out.new ≡ written out.old at (dec n) }
 {
-    let mut d = [0u8; 20];
+    let mut d = [0; 20];
     let mut from = 19;
     let mut rest = n;
+    // By what is left, and not a `for` over the places: that one would need an answer at its end, which is never reached.
     while 10 <= rest {
         d[from] = digit(rest % 10);
-        rest = rest / 10;
+        rest /= 10;
         from -= 1;
     }
     d[from] = digit(rest);

@@ -1,74 +1,45 @@
--- The commits of a file in turn: the ways through one, what a loop over them keeps, and what it comes to.
-use Prim.Native.Nat.{ℕ, zero, suc, ◌+◌, ◌*◌, ◌≤◌, ◌<◌, min, max}
-use mathlib.Core.List.{List}
-use mathlib.Core.Path.{◌≡◌, refl, sym, ap, ◌∙◌}
-use native.Mathlib.Omega.{arith}
-use lib.Dec.{ltb}
-use lib.ListN.{get_or, set, replicate}
+-- The commits of a file in turn: how one goes, what a loop over them keeps, and what it comes to.
+use Rattle.std.proofs.Common.{ℕ, zero, suc, ◌+◌, ◌≤◌, ◌<◌, min, max, List, ◌≡◌, refl, sym, ap, arith, get_or, set, replicate, Result, Ok, Err, is_err}
+use Rattle.std.specs.Prelude.{⊤}
+use Rattle.types.specs.Refusals.{refusal}
+use Rattle.types.specs.declared.refusal.Reason.{Reason}
+use Rattle.types.specs.declared.refusal.Refusal.{Refusal}
+use Rattle.words.specs.First.{◌or◌, refuse}
 use Rattle.ancestry.specs.Graph.{highest_below}
-use Rattle.ancestry.specs.Counts.{key_of, counts_of, lowest_below}
+use Rattle.ancestry.specs.Counts.{key_of, lowest_below}
 use Rattle.ancestry.proofs.Counts.{counts_none}
 use Rattle.ancestry.proofs.Scans.{sofar_begins, highest_adds, lowest_begins, lowest_adds}
-use Rattle.commit.specs.Commits.{commit_of}
-use Rattle.steps.specs.Walks.{end_of, count_of}
+use Rattle.steps.specs.Walks.{end_of, counted}
+use Rattle.steps.proofs.Walking.{count_is}
 use Rattle.commit.specs.declared.Commit.{Commit}
-use Rattle.steps.specs.declared.Counted.{Counted}
-use Rattle.steps.specs.declared.Counted.TheVariants.{Count, Refused as Stopped}
-use Rattle.steps.proofs.Walking.{count_all, count_short}
-use Rattle.commit.specs.declared.Asked.{Asked}
-use Rattle.commit.specs.declared.Asked.TheVariants.{Commit as Is, Refused}
-use Rattle.traverse.specs.Traversal.{gen_in, walk_in, parents_in, commit_rule, bad, bad_commit, commit_rules, key_in}
-use Rattle.traverse.specs.Scans.{tried_by, tried_of, lower_of, ScannedAs}
-use Rattle.traverse.specs.declared.commits.Scanned.{Scanned}
-use Rattle.rules.proofs.Entries.{or_hit, or_miss}
-use Rattle.tries.specs.Tries.{Parts, Holds, row_in, stopped_by, Told}
+use Rattle.traverse.specs.Traversal.{gen_in, walk_in, parents_in, commit_rule, bad, bad_commit, commit_rules, key_in, summary_of}
+use Rattle.traverse.specs.Scans.{tried_by, tried_of, lower_of, scanned_of}
+use Rattle.tries.specs.Tries.{Parts, Holds, row_in, told}
 use Rattle.tries.specs.declared.Tried.{Tried}
-use Rattle.tries.proofs.Trials.{commit_is, row_bad, row_fine, Going, going_stops, going_small, going_next, going_ends}
+use Rattle.tries.proofs.Trials.{row_bad, row_fine, Going, going_stops, going_tried, going_small, going_next, going_ends}
 
 -- ── one commit: a is how its row was answered, r how it went ──
 
-module _ {q : Parts} {n : ℕ} (i : ℕ) (o : Holds q n) (l : i < n) {a : Asked} (e : a ≡ row_in q.width q.fan q.ids q.rows i)
-    {r : Tried} (d : r ≡ tried_of a q.there q.edge) where
-  abbrev counted : Commit → Counted
-  counted x = count_of x.first x.second q.there q.edge
+count_told : (m : Result ⊤ Reason) (n g : ℕ) → tried_by g (counted m n) ≡ told m n g
+unfolding tried_by counted refuse
+count_told (Ok u) n g = refl
+count_told (Err e) n g = refl
 
-  -- the walk's way, where the row is there
-  walked : {x : Commit} → a ≡ Is x → (y : Counted) → counted x ≡ y
-      → Told (commit_rule q i) (parents_in q i) (gen_in q i) r
-  unfolding commit_rule tried_of tried_by
-  walked {x} p y c =
-      let (none, row) = row_fine i o l e p in
-      let v : y ≡ counted (commit_is q i) = sym c ∙ rw row in
-      let w : r ≡ tried_by x.generation y = d ∙ rw (p, c) in
-      go y v w (sym (or_miss _ none)) (ap (λ (c : Commit). c.generation) row)
-    where
-      go : {k g : ℕ} (y : Counted) → y ≡ counted (commit_is q i)
-          → r ≡ tried_by g y → end_of (walk_in q i) ≡ k → g ≡ gen_in q i → Told k (parents_in q i) (gen_in q i) r
-      go (Count k) v w m g =
-          let z = count_all _ _ q.there q.edge v refl in
-          rw w (record { number = sym z.0 ∙ m; parents = λ _. sym z.1; generation = λ _. g })
-      go (Stopped k) v w m g =
-          let z = count_short _ _ q.there q.edge v refl in
-          rw w (record { number = sym z.0 ∙ m; parents = λ b. absurd (omega (arith, z.1)); generation = λ b. absurd (omega (arith, z.1)) })
-
-  pub tried_is : Told (commit_rule q i) (parents_in q i) (gen_in q i) r
-  unfolding commit_rule tried_of
+module _ {q : Parts} {n : ℕ} (i : ℕ) (o : Holds q n) (l : i < n) {a : Result Commit Refusal}
+    (e : a ≡ row_in q.width q.fan q.ids q.rows i) {r : Result Tried Reason} (d : r ≡ tried_of a q.edge) where
+  pub tried_is : r ≡ told (commit_rule q i) (parents_in q i) (gen_in q i)
+  unfolding tried_of commit_rule refuse ◌or◌
   tried_is = go a refl
     where
-      go : (v : Asked) → a ≡ v → Told (commit_rule q i) (parents_in q i) (gen_in q i) r
-      go (Refused x) p =
-          let z = row_bad i o l e p in
-          let w : r ≡ stopped_by x.number = d ∙ rw p in
-          rw w (record {
-            number = z.1 ∙ or_hit _ _ (omega arith);
-            parents = λ b. absurd (omega arith);
-            generation = λ b. absurd (omega arith);
-          })
-      go (Is x) p = walked p _ refl
+      go : (v : Result Commit Refusal) → a ≡ v → r ≡ told (commit_rule q i) (parents_in q i) (gen_in q i)
+      go (Err x) p = rw (d, p, row_bad i o l e p)
+      go (Ok x) p =
+          let k = row_fine i o l e p in
+          rw (d, p, k.0, k.1, count_is _ _ q.edge) (count_told (end_of (walk_in q i)) (parents_in q i) (gen_in q i))
 
 -- ── all of them ──
 
-bad_is : (q : Parts) (i : ℕ) → bad q i ≡ ltb 0 (commit_rule q i)
+bad_is : (q : Parts) (i : ℕ) → bad q i ≡ is_err (commit_rule q i)
 unfolding bad
 bad_is q i = refl
 
@@ -88,24 +59,14 @@ scan_begins q n =
     }
 
 -- the ways to the lower of two
-module _ (c old g : ℕ) where
-  pub lower_first : c ≡ 0 → g ≡ lower_of c old g
-  unfolding lower_of
-  lower_first e = rw e
+pub lower_first : (c old g : ℕ) → c ≡ 0 → g ≡ lower_of c old g
+unfolding lower_of
+lower_first c old g e = rw e
 
-  lower_min : (c ≡ 0 → ⊥) → min old g ≡ lower_of c old g
-  unfolding lower_of
-  lower_min = go c
-    where
-      go : (n : ℕ) → (n ≡ 0 → ⊥) → min old g ≡ lower_of n old g
-      go zero h = absurd (h refl)
-      go (suc n) h = refl
-
-  pub lower_new : (c ≡ 0 → ⊥) → g < old → g ≡ lower_of c old g
-  lower_new h l = omega (arith, lower_min h)
-
-  pub lower_old : (c ≡ 0 → ⊥) → old ≤ g → old ≡ lower_of c old g
-  lower_old h l = omega (arith, lower_min h)
+pub lower_min : (c old g : ℕ) → (c ≡ 0 → ⊥) → min old g ≡ lower_of c old g
+unfolding lower_of
+lower_min zero old g h = absurd (h refl)
+lower_min (suc c) old g h = refl
 
 lower_adds : (f : ℕ → ℕ) (n : ℕ) {x g r : ℕ} → g ≡ f n → x ≡ lowest_below f n → r ≡ lower_of n x g → r ≡ lowest_below f (n + 1)
 unfolding lower_of
@@ -113,46 +74,33 @@ lower_adds f zero {x} {g} {r} e d q = lowest_begins f zero x r e refl q
 lower_adds f (suc n) {x} {g} {r} e d q = lowest_adds f (suc n) x r e (omega arith) d q
 
 module _ {q : Parts} {n c highest lowest most : ℕ} {counts : List ℕ} (s : Scanning q n c highest lowest most counts) where
-  -- t is how commit c went
-  module _ (l : c < n) {t : Tried} (a : Told (commit_rule q c) (parents_in q c) (gen_in q c) t) where
-    pub scan_stops : (r : Scanned) → 0 < t.number → r.number ≡ t.number → r.place ≡ c → ScannedAs q n r
-    unfolding bad_commit commit_rules
-    scan_stops r h d p =
-        let x = going_stops s.going (commit_rule q) (bad_is q) l a h in
-        record {
-          number = d ∙ x.1;
-          place = p ∙ x.0;
-          highest = λ z. absurd (omega arith);
-          lowest = λ z. absurd (omega arith);
-          most = λ z. absurd (omega arith);
-          counts = λ z. let y : ⊥ = omega arith in absurd y;
-        }
+  -- r is how commit c went
+  module _ (l : c < n) {r : Result Tried Reason} (a : r ≡ told (commit_rule q c) (parents_in q c) (gen_in q c)) where
+    pub scan_stops : (e : Reason) → r ≡ Err e → scanned_of q n ≡ Err (refusal e c)
+    unfolding scanned_of bad_commit commit_rules refuse
+    scan_stops e x = let y = going_stops s.going (commit_rule q) (bad_is q) l _ _ a x in rw (y.1, ← y.0)
 
-    module _ (h : t.number ≤ 0) {k : ℕ} (e : k ≡ key_of t.parents) (b : k < 66) where
+    module _ {t : Tried} (went : r ≡ Ok t) {k : ℕ} (e : k ≡ key_of t.parents) (b : k < 66) where
+      tried : t ≡ record { parents = parents_in q c; generation = gen_in q c }
+      tried = going_tried s.going (commit_rule q) (bad_is q) l _ _ a went
+
       pub scan_small : get_or counts k 0 ≤ c
       unfolding key_in
-      scan_small = going_small s.going (commit_rule q) (bad_is q) l a h e b refl
+      scan_small = going_small s.going (commit_rule q) (bad_is q) l _ _ a went e b refl
 
       pub scan_next : {high low top : ℕ} → high ≡ max highest t.generation → low ≡ lower_of c lowest t.generation
           → top ≡ max most t.parents → Scanning q n (c + 1) high low top (set counts k (get_or counts k 0 + 1))
       unfolding key_in
       scan_next {high} {low} {top} x y z =
           record {
-            going = going_next s.going (commit_rule q) (bad_is q) l a h e b refl refl x;
-            lowest = lower_adds (gen_in q) c (a.generation (omega arith)) s.lowest y;
-            most = highest_adds (parents_in q) c most top (a.parents (omega arith)) s.most z;
+            going = going_next s.going (commit_rule q) (bad_is q) l _ _ a went e b refl refl x;
+            lowest = lower_adds (gen_in q) c (ap (λ (u : Tried). u.generation) tried) s.lowest y;
+            most = highest_adds (parents_in q) c most top (ap (λ (u : Tried). u.parents) tried) s.most z;
           }
 
-  pub scan_ends : n ≤ c → (r : Scanned) → r.number ≡ 0 → r.place ≡ c → r.highest ≡ highest → r.lowest ≡ lowest → r.most ≡ most
-      → r.counts ≡ counts → ScannedAs q n r
-  unfolding bad_commit commit_rules
-  scan_ends l r d p h w m k =
+  pub scan_ends : n ≤ c → Ok (record { summary = record { commits = n; highest = highest; lowest = lowest; most = most }; counts = counts })
+      ≡ scanned_of q n
+  unfolding scanned_of summary_of bad_commit commit_rules refuse
+  scan_ends l =
       let x = going_ends s.going (commit_rule q) (bad_is q) l in
-      record {
-        number = d ∙ x.1;
-        place = p ∙ x.0;
-        highest = λ z. h ∙ s.going.highest ∙ ap (highest_below (gen_in q)) x.2;
-        lowest = λ z. w ∙ s.lowest ∙ ap (lowest_below (gen_in q)) x.2;
-        most = λ z. m ∙ s.most ∙ ap (highest_below (parents_in q)) x.2;
-        counts = λ z. k ∙ s.going.counts ∙ ap (counts_of (key_in q)) x.2;
-      }
+      rw (x.1, ← x.2, s.going.highest, s.lowest, s.most, s.going.counts)

@@ -1,25 +1,25 @@
 -- What the private functions of a traversal hand each other. No rule of the paper is here.
-use Rattle.std.specs.Prelude.{ℕ, zero, suc, min, ◌≡◌, List, Bool}
-use Rattle.ancestry.specs.Graph.{highest_below}
-use Rattle.ancestry.specs.Counts.{counts_of, lowest_below}
-use Rattle.commit.specs.declared.Asked.{Asked}
-use Rattle.commit.specs.declared.Asked.TheVariants.{Commit as Is, Refused}
+use Rattle.std.specs.Prelude.{ℕ, zero, suc, min, List, Option, Result, Ok, Err}
+use Rattle.types.specs.Refusals.{refused_at}
+use Rattle.types.specs.declared.refusal.Reason.{Reason}
+use Rattle.types.specs.declared.refusal.Refusal.{Refusal}
+use Rattle.words.specs.First.{refuse}
+use Rattle.commit.specs.declared.Commit.{Commit}
 use Rattle.steps.specs.Walks.{count_of}
-use Rattle.steps.specs.declared.Counted.{Counted}
-use Rattle.steps.specs.declared.Counted.TheVariants.{Count, Refused as Stopped}
-use Rattle.tries.specs.Tries.{Parts, stopped_by}
+use Rattle.tries.specs.Tries.{Parts}
 use Rattle.tries.specs.declared.Tried.{Tried}
-use Rattle.traverse.specs.Traversal.{gen_in, parents_in, bad_commit, commit_rules, key_in}
-use Rattle.traverse.specs.declared.commits.Scanned.{Scanned}
+use Rattle.traverse.specs.Traversal.{bad_commit, commit_rules, totals_of, refused_by}
+use Rattle.traverse.specs.declared.commits.Totals.{Totals}
+use Rattle.traverse.specs.declared.Traversal.{Traversal}
 
 -- a commit whose row was answered: its walk
-unfoldable pub tried_by : ℕ → Counted → Tried
-tried_by g (Count k) = record { number = 0; parents = k; generation = g }
-tried_by g (Stopped r) = stopped_by r
+unfoldable pub tried_by : ℕ → Result ℕ Reason → Result Tried Reason
+tried_by g (Ok k) = Ok (record { parents = k; generation = g })
+tried_by g (Err e) = Err e
 
-unfoldable pub tried_of : Asked → Bool → List ℕ → Tried
-tried_of (Refused r) there edge = stopped_by r.number
-tried_of (Is x) there edge = tried_by x.generation (count_of x.first x.second there edge)
+unfoldable pub tried_of : Result Commit Refusal → Option (List ℕ) → Result Tried Reason
+tried_of (Err r) edge = Err r.reason
+tried_of (Ok x) edge = tried_by x.generation (count_of x.first x.second edge)
 
 -- the lower of two generations; that of commit 0 stands alone
 unfoldable pub lower_of : ℕ → ℕ → ℕ → ℕ
@@ -27,10 +27,10 @@ lower_of zero old g = g
 lower_of (suc c) old g = min old g
 
 -- n commits were tried
-pub record ScannedAs (q : Parts) (n : ℕ) (r : Scanned) : Type 0 where
-  pub number : r.number ≡ commit_rules q n
-  pub place : r.place ≡ bad_commit q n
-  pub highest : r.number ≡ 0 → r.highest ≡ highest_below (gen_in q) n
-  pub lowest : r.number ≡ 0 → r.lowest ≡ lowest_below (gen_in q) n
-  pub most : r.number ≡ 0 → r.most ≡ highest_below (parents_in q) n
-  pub counts : r.number ≡ 0 → r.counts ≡ counts_of (key_in q) n
+unfoldable pub scanned_of : Parts → ℕ → Result Totals Refusal
+scanned_of q n = refuse (refused_at (commit_rules q n) (bad_commit q n)) Err (Ok (totals_of q n))
+
+-- what a file came to, as a traversal
+unfoldable pub traversed : Result Totals Refusal → Traversal
+traversed (Ok t) = record { verdict = Ok t.summary; counts = t.counts }
+traversed (Err r) = refused_by r

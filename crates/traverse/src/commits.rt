@@ -1,114 +1,94 @@
-// The commits of one file in turn: the first refusal, and what they add up to.
+// The commits of one file in turn: the first refusal, or what they add up to.
 ghost use Rattle.std.specs.Prelude.{◌≡◌};
 ghost use Rattle.fit.specs.Facts.{Opened};
+ghost use Rattle.steps.specs.Walks.{shown};
 ghost use Rattle.tries.specs.Tries.{Holds, parts_of};
-ghost use Rattle.traverse.specs.Scans.{tried_of, lower_of, ScannedAs};
+ghost use Rattle.traverse.specs.Scans.{tried_of, lower_of, scanned_of};
 
-use chunk::{missing, size, start};
-use commit::Asked;
+use super::Summary;
+use commit::Commit;
 use file::File;
-use steps::{Counted, count_in};
-use tries::{Tried, key, row_in, stopped};
-use words::part::part;
+use fit::parts::Fit;
+use steps::count_in;
+use tries::{Tried, key, row_in};
+use types::refusal;
+use types::refusal::{Reason, Refusal};
 
-// How the commits of a file went.
+// What the commits of a file add up to; the counts are of commits with 0 to 64 parents, and with more.
 #[derive(Clone, Copy)]
-pub struct Scanned {
-    pub number: u32,
-    pub place: u32,
-    pub highest: u32,
-    pub lowest: u32,
-    pub most: usize,
+pub struct Totals {
+    pub summary: Summary,
     pub counts: [u32; 66],
 }
 
-// A commit, whose row was answered by `a`: its walk.
-fn attempt(a: Asked, edge: &[u8], there: bool) -> Tried
-    ensures { result ≡ tried_of a there edge.now }
+// A commit, by how its row was answered: its walk.
+#[tactic(auto, unfolding(crate::specs::Scans::tried_of, crate::specs::Scans::tried_by))]
+fn attempt(row: Result<Commit, Refusal>, edge: Option<&[u8]>) -> Result<Tried, Reason>
+    ensures { result ≡ tried_of row (shown edge.entry) }
 {
-    match a {
-        Asked::Refused(r) => stopped(r.number),
-        Asked::Commit(x) => {
-            let first = x.first;
-            let second = x.second;
-            match count_in(first, second, edge, there) {
-                Counted::Refused(k) => stopped(k),
-                Counted::Count(k) => Tried {
-                    number: 0,
-                    parents: k,
-                    generation: x.generation,
-                },
-            }
-        }
-    }
+    let commit = row.map_err(|r| r.reason)?;
+    let parents = count_in(commit.first, commit.second, edge)?;
+    Ok(Tried {
+        parents,
+        generation: commit.generation,
+    })
 }
 
 // The lower of two generations; the first commit's stands alone.
+#[tactic(auto, using(crate::proofs::Scanning::lower_first, crate::proofs::Scanning::lower_min))]
 fn lower(c: u32, old: u32, g: u32) -> u32
     ensures { result ≡ lower_of c old g }
 {
-    if c == 0 {
-        return g;
-    }
-    if g < old { g } else { old }
+    if c == 0 { g } else { old.min(g) }
 }
 
 // The commits of a file, by its chunks' own parts.
-fn scan(fan: &[u8], ids: &[u8], rows: &[u8], edge: &[u8], there: bool, w: usize, n: u32) -> Scanned
-    requires { Holds (record { width = w; fan = fan.now; ids = ids.now; rows = rows.now; edge = edge.now; there = there }) n }
-    ensures { ScannedAs (record { width = w; fan = fan.now; ids = ids.now; rows = rows.now; edge = edge.now; there = there }) n result }
+fn scan(
+    fan: &[u8],
+    ids: &[u8],
+    rows: &[u8],
+    edge: Option<&[u8]>,
+    w: usize,
+    n: u32,
+) -> Result<Totals, Refusal>
+    requires { Holds (record { width = w; fan = fan.now; ids = ids.now; rows = rows.now; edge = shown edge }) n }
+    ensures { result ≡ scanned_of (record { width = w; fan = fan.now; ids = ids.now; rows = rows.now; edge = shown edge.entry }) n }
 {
     let mut counts = [0u32; 66];
-    let mut highest = 0;
+    let mut highest = 0u32;
     let mut lowest = 0;
-    let mut most = 0;
-    let mut c = 0;
-    while c < n {
-        let a = row_in(fan, ids, rows, w, c);
-        let t = attempt(a, edge, there);
-        if 0 < t.number {
-            return Scanned {
-                number: t.number,
-                place: c,
-                highest,
-                lowest,
-                most,
-                counts,
-            };
-        }
-        let k = key(t.parents);
-        counts[k] += 1;
-        lowest = lower(c, lowest, t.generation);
-        if highest < t.generation {
-            highest = t.generation;
-        }
-        if most < t.parents {
-            most = t.parents;
-        }
-        c += 1;
+    let mut most = 0usize;
+    for c in 0..n {
+        let row = row_in(fan, ids, rows, w, c);
+        let tried = attempt(row, edge).map_err(|reason| refusal::at(reason, c as u64))?;
+        counts[key(tried.parents)] += 1;
+        lowest = lower(c, lowest, tried.generation);
+        highest = highest.max(tried.generation);
+        most = most.max(tried.parents);
     }
-    Scanned {
-        number: 0,
-        place: c,
-        highest,
-        lowest,
-        most,
+    Ok(Totals {
+        summary: Summary {
+            commits: n,
+            highest,
+            lowest,
+            most,
+        },
         counts,
-    }
+    })
 }
 
 // Each commit of an opened file.
-pub(crate) fn commits(s: &[u8], f: File) -> Scanned
+pub(crate) fn commits(s: &[u8], f: File) -> Result<Totals, Refusal>
     requires { Opened s.now f }
-    ensures { ScannedAs (parts_of s.now f) f.commits result }
+    ensures { result ≡ scanned_of (parts_of s.now f) f.commits }
 {
-    let w = f.width;
-    let n = f.commits;
-    let e = f.edge;
-    let fan = part(s, f.oidf, 256, 4);
-    let ids = part(s, f.oidl, n as usize, w);
-    let rows = part(s, f.cdat, n as usize, w + 16);
-    let edge = part(s, start(e), size(e), 1);
-    let there = !missing(e);
-    scan(fan, ids, rows, edge, there, w, n)
+    let fit = Fit { bytes: s, file: f };
+    scan(
+        fit.fan(),
+        fit.ids(),
+        fit.rows(),
+        fit.edge(),
+        f.width,
+        f.commits,
+    )
 }

@@ -1,49 +1,28 @@
 -- What was said of commit i of a file's parts, and what was cut out of a file's bytes.
-use Prim.Native.Nat.{ℕ, ◌+◌, ◌*◌, ◌≤◌, ◌<◌, max}
-use mathlib.Core.List.{List}
-use mathlib.Core.Bool.{Bool, not}
-use mathlib.Core.Path.{◌≡◌, refl, sym, ap, ap₂, ◌∙◌}
-use native.Mathlib.Omega.{arith}
-use denote.Ref.{Bor}
-use lib.Dec.{ltb}
-use lib.ListN.{length, get_or, set, take, drop}
-use borrow.Author.Tests.{le-ltb}
+use Rattle.std.proofs.Common.{ℕ, ◌+◌, ◌*◌, ◌≤◌, ◌<◌, max, List, Bool, ◌≡◌, ap, sym, ◌∙◌, arith, length, get_or, set, le-ltb, Result, Ok, Err, is_err}
+use Rattle.std.specs.Prelude.{Option, ⊤}
 use Rattle.types.specs.Refusals.{refusal}
+use Rattle.types.specs.declared.refusal.Reason.{Reason}
 use Rattle.types.specs.declared.refusal.Refusal.{Refusal}
-use Rattle.words.specs.First.{first, refuse}
-use Rattle.words.specs.Part.{RecordsOf}
-use Rattle.words.proofs.Parts.{length_part, records_in, run_in}
-use Rattle.words.proofs.Rows.{miss, refuse_some, refuse_none}
-use Rattle.chunk.specs.Index.{absent, start_of, size_of}
+use Rattle.words.specs.First.{◌if◌else◌, fine, first, refuse}
+use Rattle.words.proofs.Parts.{length_part}
+use Rattle.words.proofs.Rows.{refuse_other}
 use Rattle.fit.specs.Facts.{Opened}
+use Rattle.fit.specs.Fits.{fan_part, ids_part, rows_part, edge_chunk}
 use Rattle.fit.proofs.Fitting.{run_within}
 use Rattle.file.specs.declared.File.{File}
 use Rattle.commit.specs.Commits.{commit_of, commit_in, row_rule, not_commit}
 use Rattle.commit.specs.declared.Commit.{Commit}
-use Rattle.commit.specs.declared.Asked.{Asked}
-use Rattle.commit.specs.declared.Asked.TheVariants.{Commit as Is, Refused}
 use Rattle.rules.specs.Rules.{entry_rule, entry_in}
 use Rattle.rules.proofs.Entries.{entry_plain}
-use Rattle.words.proofs.Numbers.{le_or_lt}
-use mathlib.Core.Logic.{⊎_elim}
 use Rattle.ancestry.specs.Graph.{highest_below}
 use Rattle.ancestry.specs.Counts.{key_of, counts_of}
 use Rattle.ancestry.proofs.Scans.{Sofar, first_rule, sofar_next, sofar_stops, sofar_ends, highest_adds, counts_adds, counts_small}
-use Rattle.tries.specs.Tries.{Parts, parts_of, Holds, row_in, Told}
+use Rattle.tries.specs.Tries.{Parts, parts_of, Holds, row_in, told}
 use Rattle.tries.specs.declared.Tried.{Tried}
 
--- the ways through a row: m is what the entry met
-module _ (w : ℕ) (fan ids rows : List ℕ) (c : ℕ) {m : ℕ} (e : m ≡ entry_in w fan ids rows c) where
-  pub row_refused : 0 < m → not_commit m ≡ row_in w fan ids rows c
-  unfolding row_in
-  row_refused h = rw (← e) (refuse_some m not_commit _ h)
-
-  pub row_there : m ≤ 0 → commit_in w rows c ≡ row_in w fan ids rows c
-  unfolding row_in
-  row_there h = sym (refuse_none not_commit _ (omega arith))
-
 -- what entry i of parts meets, and its commit
-abbrev pub entry_of : Parts → ℕ → ℕ
+abbrev pub entry_of : Parts → ℕ → Result ⊤ Reason
 entry_of q i = entry_rule q.width q.fan q.ids q.rows i
 
 abbrev pub commit_is : Parts → ℕ → Commit
@@ -55,52 +34,34 @@ module _ {q : Parts} {n : ℕ} (i : ℕ) (o : Holds q n) (l : i < n) where
   rows_room = omega (arith, run_within i n (q.width + 16) l, o.rows)
 
   -- the entry's rules are tried where the entry lies in the parts
-  entry_is_lem : entry_in q.width q.fan q.ids q.rows i ≡ entry_of q i
-  entry_is_lem =
+  entry_is : entry_in q.width q.fan q.ids q.rows i ≡ entry_of q i
+  entry_is =
       let z = run_within i n q.width l in
       entry_plain q.width q.fan q.ids q.rows i o.known o.fan (omega (arith, o.ids)) rows_room
 
   -- the commit is there
-  row_is : commit_in q.width q.rows i ≡ Is (commit_is q i)
-  unfolding commit_in row_rule refuse
-  row_is =
-      let z : row_rule q.width (length q.rows) i ≡ 0 =
-      sym (miss 40 _ _ 0 (ap not o.known) (miss 40 _ 0 0 (le-ltb (length q.rows) _ rows_room) refl)) in
-      rw z
+  row_is : commit_in q.width q.rows i ≡ Ok (commit_is q i)
+  unfolding commit_in row_rule refuse ◌if◌else◌
+  row_is = rw (o.known, le-ltb (length q.rows) _ rows_room)
 
   -- a is how its row was answered: by a refusal of its entry, or by the commit
-  module _ {a : Asked} (e : a ≡ row_in q.width q.fan q.ids q.rows i) where
-    fine : entry_of q i ≤ 0 → a ≡ Is (commit_is q i)
-    fine h = e ∙ sym (row_there _ _ _ _ _ refl (omega (arith, entry_is_lem))) ∙ row_is
+  module _ {a : Result Commit Refusal} (e : a ≡ row_in q.width q.fan q.ids q.rows i) where
+    said : a ≡ refuse (entry_of q i) not_commit (Ok (commit_is q i))
+    unfolding row_in
+    said = rw (← entry_is, ← row_is) e
 
-    bad : 0 < entry_of q i → a ≡ not_commit (entry_of q i)
-    bad h = e ∙ sym (row_refused _ _ _ _ _ (sym entry_is_lem) h)
+    pub row_bad : {r : Refusal} → a ≡ Err r → entry_of q i ≡ Err r.reason
+    unfolding refuse
+    row_bad {r} d = go (entry_of q i) (sym said ∙ d)
+      where
+        go : (m : Result ⊤ Reason) → refuse m not_commit (Ok (commit_is q i)) ≡ Err r → m ≡ Err r.reason
+        go (Ok u) z = cc
+        go (Err s) z = let y : refusal s 0 ≡ r = cc in ap (λ (x : Refusal). Err x.reason) y
 
-    pub row_bad : {r : Refusal} → a ≡ Refused r → (0 < r.number) × (r.number ≡ entry_of q i)
-    row_bad {r} d =
-        ⊎_elim
-        (λ (h : entry_of q i ≤ 0).
-        let z : ◌≡◌ {A = ℕ} 0 1 = cc (fine h) in absurd (omega arith))
-        (λ (h : 0 < entry_of q i).
-        let z : r ≡ refusal (entry_of q i) 0 = cc (bad h) in
-        (rw z h, ap (λ (r : Refusal). r.number) z))
-        (le_or_lt (entry_of q i) 0)
-
-    pub row_fine : {x : Commit} → a ≡ Is x
-        → (entry_of q i ≡ 0) × (x ≡ commit_is q i)
-    row_fine {x} d =
-        ⊎_elim
-        (λ (h : entry_of q i ≤ 0). (omega arith, cc (fine h)))
-        (λ (h : 0 < entry_of q i).
-        let z : ◌≡◌ {A = ℕ} 0 1 = cc (bad h) in absurd (omega arith))
-        (le_or_lt (entry_of q i) 0)
+    pub row_fine : {x : Commit} → a ≡ Ok x → (entry_of q i ≡ fine) × (x ≡ commit_is q i)
+    row_fine d = let k = refuse_other (entry_of q i) not_commit _ (λ s z. cc) (sym said ∙ d) in (k.0, cc k.1)
 
 -- ── a file's parts ──
-
-parts_same : (w : ℕ) {a b c d x y z v : List ℕ} {s t : Bool} → a ≡ x → b ≡ y → c ≡ z → d ≡ v → s ≡ t
-    → ◌≡◌ {A = Parts} (record { width = w; fan = a; ids = b; rows = c; edge = d; there = s })
-    (record { width = w; fan = x; ids = y; rows = z; edge = v; there = t })
-parts_same w p q r s t = rw (p, q, r, s, t)
 
 pub file_holds : {p : List ℕ} {f : File} → Opened p f → Holds (parts_of p f) f.commits
 file_holds {p} {f} o = record {
@@ -111,18 +72,9 @@ file_holds {p} {f} o = record {
 }
 
 -- what was cut out of its bytes
-pub cut_is : (s : Bor (List ℕ)) {f : File} → Opened s.now f → (fan ids rows edge : Bor (List ℕ)) {there : Bool}
-    → RecordsOf s f.oidf 256 4 fan → RecordsOf s f.oidl f.commits f.width ids
-    → RecordsOf s f.cdat f.commits (f.width + 16) rows → {at n : ℕ} → at ≡ start_of f.edge → n ≡ size_of f.edge
-    → RecordsOf s at n 1 edge → there ≡ not (absent f.edge)
-    → record { width = f.width; fan = fan.now; ids = ids.now; rows = rows.now; edge = edge.now; there = there } ≡ parts_of s.now f
-cut_is s {f} o fan ids rows edge a b c {at} {n} p r d t =
-    parts_same f.width
-    (records_in s fan f.oidf 256 4 o.fitted.fan a).bytes
-    (records_in s ids f.oidl f.commits f.width o.fitted.ids b).bytes
-    (records_in s rows f.cdat f.commits (f.width + 16) o.fitted.rows c).bytes
-    ((run_in s edge at n (omega (arith, o.fitted.edge)) d).bytes ∙ ap₂ (λ (i j : ℕ). take i (drop j s.now)) r p)
-    t
+pub cut_is : (l : List ℕ) (f : File) {fan ids rows : List ℕ} {edge : Option (List ℕ)} → fan ≡ fan_part l f → ids ≡ ids_part l f
+    → rows ≡ rows_part l f → edge ≡ edge_chunk l f → record { width = f.width; fan = fan; ids = ids; rows = rows; edge = edge } ≡ parts_of l f
+cut_is l f a b c d = rw (a, b, c, d)
 
 -- ── a loop over the n commits of a file ──
 
@@ -132,28 +84,40 @@ pub record Going (bad : ℕ → Bool) (gens keys : ℕ → ℕ) (n c p h : ℕ) 
   pub highest : h ≡ highest_below gens p
   pub counts : t ≡ counts_of keys p
 
-module _ {bad : ℕ → Bool} {gens keys : ℕ → ℕ} {n c p h : ℕ} {t : List ℕ} (s : Going bad gens keys n c p h t) (rule : ℕ → ℕ)
-    (is : (i : ℕ) → bad i ≡ ltb 0 (rule i)) where
+module _ {bad : ℕ → Bool} {gens keys : ℕ → ℕ} {n c p h : ℕ} {t : List ℕ} (s : Going bad gens keys n c p h t) (rule : ℕ → Result ⊤ Reason)
+    (is : (i : ℕ) → bad i ≡ is_err (rule i)) where
   -- r is how commit c went
-  module _ (l : c < n) {many g : ℕ} {r : Tried} (a : Told (rule c) many g r) where
-    pub going_stops : 0 < r.number → (c ≡ first bad 0 n) × (r.number ≡ first_rule rule bad n)
-    going_stops x = sofar_stops rule is s.sofar l a.number x
+  module _ (l : c < n) (many g : ℕ) {r : Result Tried Reason} (a : r ≡ told (rule c) many g) where
+    pub going_stops : {e : Reason} → r ≡ Err e → (c ≡ first bad 0 n) × (first_rule rule bad n ≡ Err e)
+    unfolding refuse
+    going_stops {e} x = sofar_stops rule is s.sofar l (go (rule c) (sym a ∙ x))
+      where
+        go : (m : Result ⊤ Reason) → told m many g ≡ Err e → m ≡ Err e
+        go (Ok u) z = cc
+        go (Err d) z = cc
 
-    module _ (fine : r.number ≤ 0) {k : ℕ} (e : k ≡ key_of r.parents) (b : k < 66) (d : key_of many ≡ keys p) where
-      key_is : k ≡ keys p
-      key_is = e ∙ ap key_of (a.parents (omega arith)) ∙ d
+    module _ {x : Tried} (went : r ≡ Ok x) where
+      fair : (rule c ≡ fine) × (◌≡◌ {A = Result Tried Reason} (Ok (record { parents = many; generation = g })) (Ok x))
+      fair = refuse_other (rule c) Err _ (λ s z. cc) (sym a ∙ went)
 
-      pub going_small : get_or t k 0 ≤ p
-      going_small = counts_small keys p key_is b s.counts
+      pub going_tried : x ≡ record { parents = many; generation = g }
+      going_tried = cc (fair.1)
 
-      pub going_next : {top : ℕ} → g ≡ gens p → top ≡ max h r.generation
-          → Going bad gens keys n (c + 1) (p + 1) top (set t k (get_or t k 0 + 1))
-      going_next {top} y x =
-          record {
-            sofar = sofar_next rule is s.sofar l a.number fine;
-            highest = highest_adds gens p h top (a.generation (omega arith) ∙ y) s.highest x;
-            counts = counts_adds keys p key_is b s.counts;
-          }
+      module _ {k : ℕ} (e : k ≡ key_of x.parents) (b : k < 66) (d : key_of many ≡ keys p) where
+        key_is : k ≡ keys p
+        key_is = e ∙ ap (λ (y : Tried). key_of y.parents) going_tried ∙ d
 
-  pub going_ends : n ≤ c → (c ≡ first bad 0 n) × (0 ≡ first_rule rule bad n) × (c ≡ n)
+        pub going_small : get_or t k 0 ≤ p
+        going_small = counts_small keys p key_is b s.counts
+
+        pub going_next : {top : ℕ} → g ≡ gens p → top ≡ max h x.generation
+            → Going bad gens keys n (c + 1) (p + 1) top (set t k (get_or t k 0 + 1))
+        going_next {top} y z =
+            record {
+              sofar = sofar_next rule is s.sofar l fair.0;
+              highest = highest_adds gens p h top (ap (λ (y : Tried). y.generation) going_tried ∙ y) s.highest z;
+              counts = counts_adds keys p key_is b s.counts;
+            }
+
+  pub going_ends : n ≤ c → (c ≡ first bad 0 n) × (first_rule rule bad n ≡ fine) × (c ≡ n)
   going_ends l = let y = sofar_ends rule is s.sofar l in (y.0, y.1, omega (arith, s.sofar.most))

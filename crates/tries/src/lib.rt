@@ -5,46 +5,41 @@ ghost use Rattle.std.specs.Prelude.{◌≡◌, ◌<◌};
 ghost use Rattle.types.specs.Said.{Answers};
 ghost use Rattle.ancestry.specs.Counts.{key_of};
 ghost use Rattle.commit.specs.Said.{asked_said};
-ghost use Rattle.tries.specs.Tries.{row_in, stopped_by};
+ghost use Rattle.tries.specs.Tries.{row_in, told};
 
-use commit::{Asked, commit_in};
+use commit::{Commit, commit_in};
 use rules::entry_in;
 use types::file::Position;
-use types::refusal;
+use types::refusal::{Reason, Refusal};
 
-// How a commit went: a refusal or 0, how many parents, its generation.
+// How many parents a commit that is not refused has, and its generation.
 #[derive(Clone, Copy)]
 pub struct Tried {
-    pub number: u32,
     pub parents: usize,
     pub generation: u32,
 }
 
-// A commit that is refused.
-pub fn stopped(number: u32) -> Tried
-    ensures { result ≡ stopped_by number }
+// A commit that is refused has no parents and no generation.
+#[tactic(auto, unfolding(words::specs::First::refuse))]
+pub fn stopped(reason: Reason) -> Result<Tried, Reason>
+    ensures { result ≡ told (Err reason) 0 0 }
 {
-    Tried {
-        number,
-        parents: 0,
-        generation: 0,
-    }
+    Err(reason)
 }
 
 // The key of a number of parents among the counts.
+#[tactic(auto, using(words::proofs::Rows::rows), unfolding(ancestry::specs::Counts::key_of))]
 pub fn key(n: usize) -> usize
     ensures { (result ≡ key_of n) × (result < 66) }
 {
-    if n <= 64 { n } else { 65 }
+    n.min(65)
 }
 
 // Refusals 64 to 67 of entry `c` of the chunks OIDF, OIDL and CDAT, by their own parts; else its row.
-pub fn row_in(fan: &[u8], ids: &[u8], rows: &[u8], w: usize, c: u32) -> Asked
+#[tactic(auto, using(types::proofs::Saying::answers), unfolding(crate::specs::Tries::row_in, words::specs::First::refuse))]
+pub fn row_in(fan: &[u8], ids: &[u8], rows: &[u8], w: usize, c: u32) -> Result<Commit, Refusal>
     ensures { Answers asked_said result (row_in w fan.now ids.now rows.now c) }
 {
-    let m = entry_in(fan, ids, rows, w, c);
-    if 0 < m {
-        return Asked::Refused(refusal::at(m, 0));
-    }
+    entry_in(fan, ids, rows, w, c)?;
     commit_in(rows, w, Position(c))
 }

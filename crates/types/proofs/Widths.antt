@@ -1,10 +1,5 @@
 -- What follows of a known width, and is cited wherever a proof needs it. No law says which width it is.
-use Prim.Native.Nat.{ℕ, ◌+◌, ◌*◌, ◌^◌, ◌≤◌, ◌<◌}
-use mathlib.Core.Bool.{true}
-use mathlib.Core.Path.{◌≡◌}
-use native.Mathlib.Omega.{arith}
-use native.Mathlib.Nat.{mul-le-mul, mul-le-mul_left, le_of_lt}
-use borrow.Author.Tests.{eqb-true}
+use Rattle.std.proofs.Common.{ℕ, ◌+◌, ◌*◌, ◌^◌, ◌≤◌, ◌<◌, true, ◌≡◌, arith, mul-le-mul, mul-le-mul_left, le_of_lt, eqb-true}
 use Rattle.types.specs.Width.{known}
 
 -- m records of r bytes, of which there are few

@@ -1,6 +1,7 @@
 -- What an answer says in the rules' own terms: the number of a refusal, 0 where nothing is refused, its file and its place; and the values of
 -- its case. A refusal has no values, any other case has one at least. Each public enum has its own image beside it (`specs/Said.antt`).
 use Rattle.std.specs.Prelude.{ℕ, List, [], ◌∷◌, ◌≡◌}
+use Rattle.types.specs.Refusals.{number_of}
 use Rattle.types.specs.declared.refusal.Refusal.{Refusal}
 
 pub record Said : Type 0 where
@@ -11,7 +12,7 @@ pub record Said : Type 0 where
 
 -- a refusal, and any other case
 abbrev pub refuses : Refusal → Said
-refuses r = record { number = r.number; file = r.file; place = r.place; values = [] }
+refuses r = record { number = number_of r.reason; file = r.file; place = r.place; values = [] }
 
 abbrev pub says : ℕ → List ℕ → Said
 says v vs = record { number = 0; file = 0; place = 0; values = v ∷ vs }

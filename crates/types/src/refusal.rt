@@ -1,111 +1,91 @@
-// A refusal: document 01's number for it, the file's index and the place. Number 0 stands for none.
+// Why something is refused: document 01's reasons with their numbers, and a refusal: its reason, the file's index and the place.
 ghost use Rattle.std.specs.Prelude.{◌≡◌};
-ghost use Rattle.types.specs.Refusals.{refusal};
+ghost use Rattle.types.specs.Refusals.{number_of, refusal};
 
-#[derive(Clone, Copy)]
+// The reasons, in the order of their numbers.
+#[derive(Clone, Copy, Debug, PartialEq, Eq)]
+pub enum Reason {
+    // One file.
+    TooLarge = 1,
+    TooSmall = 2,
+    Signature = 3,
+    Version = 4,
+    HashVersion = 5,
+    IndexCut = 6,
+    IndexId = 7,
+    IndexRepeated = 8,
+    IndexOffset = 9,
+    BaseSize = 10,
+    BaseCount = 11,
+    CdatMissing = 12,
+    CdatSize = 13,
+    OidfMissing = 14,
+    OidfSize = 15,
+    OidlMissing = 16,
+    OidlSize = 17,
+    TrailerSize = 18,
+    BaseMissing = 19,
+    FanFalls = 20,
+    OidlCount = 21,
+    CdatCount = 22,
+    // The list, and the question.
+    ListSize = 30,
+    ListRecord = 31,
+    ListSum = 32,
+    Position = 40,
+    IdWidth = 41,
+    // The walk over a commit's parents.
+    SecondAlone = 50,
+    FirstEdge = 51,
+    EdgeMissing = 52,
+    EdgeOut = 53,
+    EdgeCut = 54,
+    ListFull = 55,
+    // Verification.
+    Bases = 60,
+    BaseId = 61,
+    Checksum = 62,
+    Name = 63,
+    IdZero = 64,
+    IdOrder = 65,
+    IdBucket = 66,
+    TreeZero = 67,
+    ParentOut = 68,
+    Generation = 69,
+}
+
+impl Reason {
+    // Document 01's number of a reason.
+    pub fn number(self) -> u32
+        ensures { result ≡ number_of self }
+    {
+        self as u32
+    }
+}
+
+#[derive(Clone, Copy, Debug, PartialEq, Eq)]
 pub struct Refusal {
-    pub number: u32,
+    pub reason: Reason,
     pub file: u32,
     pub place: u64,
 }
 
-// One file.
-pub const TOO_LARGE: u32 = 1;
-
-pub const TOO_SMALL: u32 = 2;
-
-pub const SIGNATURE: u32 = 3;
-
-pub const VERSION: u32 = 4;
-
-pub const HASH_VERSION: u32 = 5;
-
-pub const INDEX_CUT: u32 = 6;
-
-pub const INDEX_ID: u32 = 7;
-
-pub const INDEX_REPEATED: u32 = 8;
-
-pub const INDEX_OFFSET: u32 = 9;
-
-pub const BASE_SIZE: u32 = 10;
-
-pub const BASE_COUNT: u32 = 11;
-
-pub const CDAT_MISSING: u32 = 12;
-
-pub const CDAT_SIZE: u32 = 13;
-
-pub const OIDF_MISSING: u32 = 14;
-
-pub const OIDF_SIZE: u32 = 15;
-
-pub const OIDL_MISSING: u32 = 16;
-
-pub const OIDL_SIZE: u32 = 17;
-
-pub const TRAILER_SIZE: u32 = 18;
-
-pub const BASE_MISSING: u32 = 19;
-
-pub const FAN_FALLS: u32 = 20;
-
-pub const OIDL_COUNT: u32 = 21;
-
-pub const CDAT_COUNT: u32 = 22;
-
-// The list, and the question.
-pub const LIST_SIZE: u32 = 30;
-
-pub const LIST_RECORD: u32 = 31;
-
-pub const LIST_SUM: u32 = 32;
-
-pub const POSITION: u32 = 40;
-
-pub const ID_WIDTH: u32 = 41;
-
-// The walk over a commit's parents.
-pub const SECOND_ALONE: u32 = 50;
-
-pub const FIRST_EDGE: u32 = 51;
-
-pub const EDGE_MISSING: u32 = 52;
-
-pub const EDGE_OUT: u32 = 53;
-
-pub const EDGE_CUT: u32 = 54;
-
-pub const LIST_FULL: u32 = 55;
-
-// Verification.
-pub const BASES: u32 = 60;
-
-pub const BASE_ID: u32 = 61;
-
-pub const CHECKSUM: u32 = 62;
-
-pub const NAME: u32 = 63;
-
-pub const ID_ZERO: u32 = 64;
-
-pub const ID_ORDER: u32 = 65;
-
-pub const ID_BUCKET: u32 = 66;
-
-pub const TREE_ZERO: u32 = 67;
-
-pub const PARENT_OUT: u32 = 68;
-
-pub const GENERATION: u32 = 69;
-
 // A refusal where there is one file.
-pub fn at(number: u32, place: u64) -> Refusal
-    ensures { result ≡ refusal number place }
+pub fn at(reason: Reason, place: u64) -> Refusal
+    ensures { result ≡ refusal reason place }
 {
     Refusal {
-        number,
+        reason,
         file: 0,
         place,
+    }
+}
+
+// A refusal at place 0 of one file: `?` makes it of a reason.
+impl From<Reason> for Refusal {
+    ghost from_gives = { λ e r. r ≡ refusal e 0 };
+
+    fn from(reason: Reason) -> Refusal {
+        at(reason, 0)
     }
 }

@@ -1,11 +1,7 @@
 -- What a verification's answer claims: demands 2 and 3 of a sound chain, its counts, and that the answer says no more and no less.
-use Prim.Native.Nat.{ℕ, ◌+◌, ◌-◌, ◌≤◌, ◌<◌}
-use mathlib.Core.List.{List}
+use Rattle.std.proofs.Common.{ℕ, ◌+◌, ◌-◌, ◌≤◌, ◌<◌, List, ◌≡◌, refl, sym, ap, subst, ◌∙◌, ◌⊎◌, arith, length, Result, Ok, Err}
 use mathlib.Core.Option.{Option, none, some}
-use mathlib.Core.Path.{◌≡◌, refl, sym, ap, subst, ◌∙◌}
-use mathlib.Core.Logic.{◌⊎◌}
-use native.Mathlib.Omega.{arith}
-use lib.ListN.{length}
+use Rattle.types.specs.declared.refusal.Refusal.{Refusal}
 use Rattle.words.specs.Big.{Bytes}
 use Rattle.words.proofs.Adds.{before_le}
 use Rattle.ancestry.specs.Graph.{highest_below, cap, length_of, Numbered, Agrees}
@@ -15,7 +11,6 @@ use Rattle.ancestry.proofs.Graph.{agrees, highest_few}
 use Rattle.list.specs.List.{records_of}
 use Rattle.fit.specs.Fits.{ids_part}
 use Rattle.file.specs.declared.File.{File}
-use Rattle.file.specs.declared.Opening.TheVariants.{Open}
 use Rattle.access.specs.Lookup.{key_of, leading, Ordered}
 use Rattle.commit.specs.Commits.{row_of}
 use Rattle.steps.specs.Walks.{positions}
@@ -30,8 +25,7 @@ use Rattle.audit.specs.Files.{gen_in, gen_at, key_at}
 use Rattle.audit.specs.Rules.{length_by, accepted, verification}
 use Rattle.verify.specs.Facts.{SoundCommit, SoundFile, Sound, length_in, Counted, Claimed, ClaimsBy, Claims}
 use Rattle.audit.specs.declared.Length.TheVariants.{Steps}
-use Rattle.audit.specs.declared.Verdict.{Verdict}
-use Rattle.audit.specs.declared.Verdict.TheVariants.{Accepted, Refused}
+use Rattle.audit.specs.declared.Summary.{Summary}
 use Rattle.audit.specs.declared.Verification.{Verification}
 use Rattle.verify.proofs.Acceptance.{commits_few, sound_of, accepted_of, refused_not}
 
@@ -53,7 +47,7 @@ module _ (z : ℕ) (c l : List ℕ) where
       }
 
   -- position g stands in an open file with the record f
-  module _ (g : ℕ) {f : File} (e : open_at z c l (file_of z c l g) ≡ Open f) where
+  module _ (g : ℕ) {f : File} (e : open_at z c l (file_of z c l g) ≡ Ok f) where
     gen_at_lem : gen_at z c l g ≡ (row_of (part_at z c l (file_of z c l g)) f (pos_of z c l g)).generation
     unfolding gen_at gen_in
     gen_at_lem = rw e
@@ -64,7 +58,7 @@ module _ (z : ℕ) (c l : List ℕ) where
 
   module _ (s : Sound z c l) where
     -- the commit at position g
-    commit_at_lem : (g : ℕ) → g < commits_in z c l → (f : File) × (open_at z c l (file_of z c l g) ≡ Open f)
+    commit_at_lem : (g : ℕ) → g < commits_in z c l → (f : File) × (open_at z c l (file_of z c l g) ≡ Ok f)
         × SoundCommit (gen_at z c l) (first_at z c l (file_of z c l g + 1)) (part_at z c l (file_of z c l g)) f (pos_of z c l g)
     commit_at_lem g h =
         let (f, e, b) = (stands z c l).opens g h in
@@ -93,7 +87,7 @@ module _ (z : ℕ) (c l : List ℕ) where
         ⊎ (highest_below (gen_at z c l) (commits_in z c l) ≡ cap)
     highest_bound = highest_few numbered
 
-    ordered : (k : ℕ) → k < records_of z l → (f : File) → open_at z c l k ≡ Open f → Ordered (part_at z c l k) f
+    ordered : (k : ℕ) → k < records_of z l → (f : File) → open_at z c l k ≡ Ok f → Ordered (part_at z c l k) f
     unfolding leading
     ordered k h f e =
         let t : SoundFile z c l k (part_at z c l k) f = s.file k h f e in
@@ -118,7 +112,7 @@ module _ (z : ℕ) (c l : List ℕ) where
       claimed = record { sound = s; commits = refl; counts = counted; found = found_exactly; agrees = length_agrees }
 
     -- a sound chain without commits is accepted with length 0
-    pub no_commits : commits_in z c l ≡ 0 → (verification z c l).verdict ≡ Accepted (record { commits = 0; length = Steps 0 })
+    pub no_commits : commits_in z c l ≡ 0 → (verification z c l).verdict ≡ Ok (record { commits = 0; length = Steps 0 })
     unfolding accepted length_by length_of highest_below
     no_commits e = ap (λ (v : Verification). v.verdict) (accepted_of z c l s) ∙ rw e
 
@@ -127,9 +121,9 @@ module _ (z : ℕ) (c l : List ℕ) where
   unfolding ClaimsBy accepted
   claims bc = go _ refl
     where
-      go : (v : Verdict) → (verification z c l).verdict ≡ v → Claims z c l (verification z c l)
-      go (Accepted t) e = let s : Sound z c l = sound_of z c l e in subst (Claims z c l) (sym (accepted_of z c l s)) (claimed s bc)
-      go (Refused r) e = subst (λ (v : Verdict). ClaimsBy z c l v (verification z c l).counts) (sym e) (refused_not z c l e)
+      go : (v : Result Summary Refusal) → (verification z c l).verdict ≡ v → Claims z c l (verification z c l)
+      go (Ok t) e = let s : Sound z c l = sound_of z c l e in subst (Claims z c l) (sym (accepted_of z c l s)) (claimed s bc)
+      go (Err r) e = subst (λ (v : Result Summary Refusal). ClaimsBy z c l v (verification z c l).counts) (sym e) (refused_not z c l e)
 
   -- a result that is the definition's has the definition's theorem
   pub both : Bytes c → {r : Verification} → r ≡ verification z c l → (r ≡ verification z c l) × Claims z c l r

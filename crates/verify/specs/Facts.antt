@@ -1,15 +1,16 @@
 -- What acceptance says, by name: an accepted chain is one where each of these facts holds, and no other is refused.
-use Rattle.std.specs.Prelude.{ℕ, ◌+◌, ◌*◌, ◌<◌, ◌≡◌, length, get_or}
+use Rattle.std.specs.Prelude.{ℕ, ◌+◌, ◌*◌, ◌<◌, ◌≡◌, length, get_or, Result, Ok, Err}
 use mathlib.Core.List.{List, Memᴰ}
 use Rattle.std.proofs.Math.Option.{Option, none, some}
 use Rattle.words.specs.Big.{be}
+use Rattle.words.specs.First.{fine}
+use Rattle.types.specs.declared.refusal.Refusal.{Refusal}
 use Rattle.words.specs.Sums.{before}
 use Rattle.ancestry.specs.Graph.{right_gen, Agrees}
 use Rattle.ancestry.specs.Counts.{count_up}
 use Rattle.list.specs.List.{records_of}
 use Rattle.fit.specs.Fits.{fan_part, ids_part, rows_part, base_part}
 use Rattle.file.specs.declared.File.{File}
-use Rattle.file.specs.declared.Opening.TheVariants.{Open}
 use Rattle.commit.specs.Commits.{row_of}
 use Rattle.steps.specs.Walks.{positions, end_of}
 use Rattle.parents.specs.Walks.{walk_of}
@@ -21,8 +22,7 @@ use Rattle.walk.specs.Lists.{parents_at}
 use Rattle.audit.specs.Files.{trailer_at, gen_at, key_at}
 use Rattle.audit.specs.declared.Length.{Length}
 use Rattle.audit.specs.declared.Length.TheVariants.{Steps, Cyclic}
-use Rattle.audit.specs.declared.Verdict.{Verdict}
-use Rattle.audit.specs.declared.Verdict.TheVariants.{Accepted, Refused}
+use Rattle.audit.specs.declared.Summary.{Summary}
 use Rattle.audit.specs.declared.Verification.{Verification}
 
 -- commit k of a file of bytes p with the record f; the chain has `limit` commits up to the file's end, and gen is the generation at a position
@@ -30,7 +30,7 @@ pub record SoundCommit (gen : ℕ → ℕ) (limit : ℕ) (p : List ℕ) (f : Fil
   -- 64 to 67: its id, its place in the fan and its tree
   pub entry : Entry f.width (fan_part p f) (ids_part p f) (rows_part p f) k
   -- 50 to 54: its walk ends without refusal; 68: each parent is a commit of this file or of one before
-  pub ended : end_of (walk_of p f k) ≡ 0
+  pub ended : end_of (walk_of p f k) ≡ fine
   pub inside : (g : ℕ) → Memᴰ g (positions (walk_of p f k)) → g < limit
   -- 69: its generation is right
   pub right : (row_of p f k).generation ≡ right_gen gen (positions (walk_of p f k))
@@ -47,8 +47,8 @@ pub record SoundFile (z : ℕ) (c l : List ℕ) (i : ℕ) (p : List ℕ) (f : Fi
 
 pub record Sound (z : ℕ) (c l : List ℕ) : Type 0 where
   -- 1 to 32: the list and every file open
-  pub opens : (opened z c l).number ≡ 0
-  pub file : (i : ℕ) → i < records_of z l → (f : File) → open_at z c l i ≡ Open f → SoundFile z c l i (part_at z c l i) f
+  pub opens : opened z c l ≡ fine
+  pub file : (i : ℕ) → i < records_of z l → (f : File) → open_at z c l i ≡ Ok f → SoundFile z c l i (part_at z c l i) f
 
 -- ── what an answer claims ──
 
@@ -73,9 +73,9 @@ pub record Claimed (z : ℕ) (c l : List ℕ) (n : ℕ) (d : Length) (t : List �
   -- demand 3
   pub agrees : Agrees (commits_in z c l) (parents_at z c l) (length_in d)
 
-unfoldable pub ClaimsBy : ℕ → List ℕ → List ℕ → Verdict → List ℕ → Type 0
-ClaimsBy z c l (Accepted s) counts = Claimed z c l s.commits s.length counts
-ClaimsBy z c l (Refused r) counts = Sound z c l → ⊥
+unfoldable pub ClaimsBy : ℕ → List ℕ → List ℕ → Result Summary Refusal → List ℕ → Type 0
+ClaimsBy z c l (Ok s) counts = Claimed z c l s.commits s.length counts
+ClaimsBy z c l (Err r) counts = Sound z c l → ⊥
 
 -- an accepted chain is sound, and the answer is true of it; a refused one is not sound
 abbrev pub Claims : ℕ → List ℕ → List ℕ → Verification → Type 0

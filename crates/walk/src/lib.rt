@@ -3,15 +3,15 @@
 
 pub mod listing;
 
-ghost use Rattle.std.specs.Prelude.{◌≡◌};
 ghost use Rattle.walk.specs.Said.{step_said};
 ghost use Rattle.types.specs.Said.{Answers};
-ghost use Rattle.walk.specs.Walks.{answer_in, step_of, ByDoor};
+ghost use Rattle.walk.specs.Walks.{step_of, ByDoor};
 
-use graph::locate::{Located, locate, of_file};
-use parents::{Answer, step_at};
-use steps::Phase;
+use graph::locate::{locate, of_file};
+use parents::step_at;
+use steps::{Parent, Phase};
 use types::graph::Position;
+use types::refusal::Refusal;
 use words::part::part;
 
 #[derive(Clone, Copy)]
@@ -20,21 +20,11 @@ pub struct Walk {
     pub phase: Phase,
 }
 
+// What a step of a walk answers, a parent or the end (`None`), and the walk after it.
 #[derive(Clone, Copy)]
 pub struct Step {
-    pub answer: Answer,
+    pub answer: Result<Option<Parent>, Refusal>,
     pub next: Walk,
-}
-
-// An answer of file `k`.
-fn in_file(k: u32, a: Answer) -> Answer
-    ensures { result ≡ answer_in k a }
-{
-    match a {
-        Answer::Parent(p) => Answer::Parent(p),
-        Answer::Refused(r) => Answer::Refused(of_file(k, r)),
-        Answer::End => Answer::End,
-    }
 }
 
 impl Walk {
@@ -42,29 +32,22 @@ impl Walk {
     pub fn step(self, chain: &[u8], list: &[u8]) -> Step
         ensures { Answers step_said result (step_of 32 chain.now list.now self) }
     {
-        let commit = self.commit;
-        let phase = self.phase;
-        match locate(chain, list, commit) {
-            Located::Refused(q) => Step {
-                answer: Answer::Refused(q),
+        match locate(chain, list, self.commit) {
+            Err(r) => Step {
+                answer: Err(r),
                 next: Walk {
-                    commit,
+                    commit: self.commit,
                     phase: Phase::Exhausted,
                 },
             },
-            Located::At(spot) => {
+            Ok(spot) => {
                 let s = part(chain, spot.start, spot.size, 1);
-                let inner = spot.inner;
-                let at = spot.pos;
-                let x = step_at(s, inner, at, phase);
-                let answer = x.answer;
-                let next = x.next;
-                let told = in_file(spot.file, answer);
+                let x = step_at(s, spot.inner, spot.pos, self.phase);
                 Step {
-                    answer: told,
+                    answer: x.answer.map_err(|r| of_file(spot.file, r)),
                     next: Walk {
-                        commit,
-                        phase: next,
+                        commit: self.commit,
+                        phase: x.next,
                     },
                 }
             }
@@ -73,11 +56,10 @@ impl Walk {
 }
 
 // The second door: the caller's walk is changed in place.
-pub fn next_parent(walk: &mut Walk, chain: &[u8], list: &[u8]) -> Answer
+pub fn next_parent(walk: &mut Walk, chain: &[u8], list: &[u8]) -> Result<Option<Parent>, Refusal>
     ensures { ByDoor chain.now list.now walk.old result walk.new }
 {
-    let w = *walk;
-    let s = w.step(chain, list);
+    let s = walk.step(chain, list);
     *walk = s.next;
     s.answer
 }
@@ -87,6 +69,6 @@ pub fn through_door(from: Walk, chain: &[u8], list: &[u8]) -> Step
     ensures { Answers step_said result (step_of 32 chain.now list.now from) }
 {
     let mut w = from;
-    let a = next_parent(&mut w, chain, list);
-    Step { answer: a, next: w }
+    let answer = next_parent(&mut w, chain, list);
+    Step { answer, next: w }
 }

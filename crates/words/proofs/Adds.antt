@@ -1,14 +1,9 @@
 -- Laws of sums, and of positions in things that lie end to end: each position below the sum stands in exactly one, and back.
-use Prim.Native.Nat.{ℕ, zero, suc, ◌+◌, ◌*◌, ◌≤◌, ◌<◌}
-use mathlib.Core.Path.{◌≡◌, refl}
-use mathlib.Core.Logic.{⊎_elim}
-use native.Mathlib.Omega.{arith}
-use native.Mathlib.Nat.{eq-or-lt_of_le, le_refl, suc-mul}
-use native.Mathlib.Numerals.{add-one}
-use borrow.Author.Tests.{lt-ltb, le-ltb, ltb-true, ltb-false}
+use Rattle.std.proofs.Common.{ℕ, zero, suc, ◌+◌, ◌*◌, ◌≤◌, ◌<◌, ◌≡◌, refl, ⊎_elim, arith, eq-or-lt_of_le, le_refl, suc-mul, add-one, lt-ltb, le-ltb}
+use Rattle.std.proofs.Common.{ltb-true, ltb-false}
 use Rattle.words.specs.First.{first}
 use Rattle.words.specs.Sums.{before, up_to, which_of, within_of}
-use Rattle.words.proofs.Numbers.{le_or_lt}
+use Rattle.std.proofs.lemmas.Bool.{cases_lt}
 use Rattle.words.proofs.Searches.{first_hit, first_before, first_is}
 
 module _ (count : ℕ → ℕ) where
@@ -38,9 +33,9 @@ module _ (count : ℕ → ℕ) where
     unfolding which_of up_to before
     which_below =
         ⊎_elim
-        (λ (z : n ≤ first (up_to count g) 0 n). absurd (none n h z (le_refl n)))
         (λ (z : first (up_to count g) 0 n < n). z)
-        (le_or_lt n _)
+        (λ (z : n ≤ first (up_to count g) 0 n). absurd (none n h z (le_refl n)))
+        (cases_lt _ n)
       where
         none : (m : ℕ) → g < before count m → m ≤ first (up_to count g) 0 n → m ≤ n → ⊥
         none zero a z y = omega arith

@@ -1,9 +1,6 @@
 -- What it means that a promise determines what it speaks of: any two results that it allows on the same arguments are equal. A promise is taken as
 -- its caller learns it, a claim on the lifetimes, the arguments, the result and the parameters at exit.
-use Prim.Native.Nat.{ℕ}
-use mathlib.Core.Path.{◌≡◌, sym, ◌∙◌}
-use mathlib.Core.List.{List}
-use denote.Ref.{Bor}
+use Rattle.std.proofs.Common.{ℕ, ◌≡◌, sym, ◌∙◌, List, Bor}
 use Rattle.words.specs.Part.{PartOf}
 
 -- two that are equal to one thing

@@ -1,11 +1,6 @@
 -- A list that is filled from the front, one element a turn, towards a definition that grows the same way.
-use mathlib.Core.Path.{◌≡◌, sym, ap, ◌∙◌}
-use Prim.Native.Nat.{ℕ, suc, ◌+◌, ◌≤◌, ◌<◌}
-use mathlib.Core.List.{List, [], ◌∷◌, ◌++◌}
-use native.Mathlib.Numerals.{add-one}
-use native.Mathlib.Omega.{arith}
-use lib.ListN.{length, take, set}
-use lib.Seq.{take-suc-set, take_all}
+use Rattle.std.proofs.Common.{◌≡◌, sym, ap, ◌∙◌, ℕ, suc, ◌+◌, ◌≤◌, ◌<◌, List, [], ◌∷◌, ◌++◌, add-one, arith, length, take, set, take-suc-set}
+use Rattle.std.proofs.Common.{take_all}
 
 module _ (g : ℕ → List ℕ) (l : List ℕ) (t : ℕ) where
   -- a store of the next element makes the first t elements the first t + 1

@@ -1,15 +1,12 @@
 -- Laws of parts: how long one is, a part of a part, and when records lie in it.
-use Prim.Native.Nat.{ℕ, zero, suc, ◌+◌, ◌-◌, ◌*◌, ◌/◌, ◌≤◌, ◌<◌}
-use mathlib.Core.List.{List, [], ◌∷◌}
-use mathlib.Core.Bool.{Bool, true, false}
-use mathlib.Core.Path.{◌≡◌, refl, sym, ap, ◌∙◌}
-use native.Mathlib.Omega.{arith}
-use native.Mathlib.Nat.{add-zero, mul-one, add-sub_cancel_left, le-div_iff_mul-le, div-lt_iff_lt-mul}
-use lib.Dec.{leb}
-use lib.ListN.{length, take, drop, length-take, length-drop}
-use lib.Seq.{take-take, drop-drop}
-use denote.Ref.{Bor}
-use borrow.Author.Tests.{le-leb, lt-leb, leb-true, leb-false}
+use Rattle.std.proofs.Common.{ℕ, zero, suc, ◌+◌, ◌-◌, ◌*◌, ◌≤◌, List, [], ◌∷◌, Bool, true, false, ◌≡◌, refl, sym, ap, ◌∙◌, arith, add-zero, mul-one}
+use Rattle.std.proofs.Common.{length, take, drop, length-take, length-drop, drop_of_length-le, ⊎_elim, take-take, drop-drop, Bor, le-leb, leb-true}
+use native.Mathlib.Nat.{add-sub_cancel_left}
+use Rattle.std.specs.List.{PartBy}
+use Rattle.std.specs.Option.{unwrap_or}
+use Rattle.std.specs.declared.option.Option.{Option}
+use Rattle.std.specs.declared.option.Option.TheVariants.{None, Some}
+use Rattle.std.proofs.lemmas.List.{take_rest}
 use Rattle.words.specs.Big.{be, number}
 use Rattle.words.specs.First.{◌if◌else◌}
 use Rattle.words.specs.Part.{fits, PartOf, RecordsOf}
@@ -43,32 +40,19 @@ pub part_length : {s r : Bor (List ℕ)} {k n : ℕ} → PartOf s k n r → k + 
 part_length {s} {r} {k} {n} p h = ap length p.bytes ∙ length_part k n s.now h
 
 -- the number that a part makes
+pub number_part : (k n : ℕ) (l : List ℕ) → n ≤ length l - k → number (take n (drop k l)) ≡ be n l k
+number_part k n l h =
+    let e : length (take n (drop k l)) ≡ n = simp (length-take, length-drop) (omega arith) in
+    rw e (be_part n l k n 0 (omega arith) ∙ rw add-zero)
+
 pub part_number : {s r : Bor (List ℕ)} {k n : ℕ} → PartOf s k n r → k + n ≤ length s.now → number r.now ≡ be n s.now k
-part_number {s} {r} {k} {n} p h =
-    let l : length r.now ≡ n = part_length p h in
-    rw l (ap (λ (x : List ℕ). be n x 0) p.bytes ∙ be_part n s.now k n 0 (omega arith) ∙ rw add-zero)
+part_number {s} {r} {k} {n} p h = ap number p.bytes ∙ number_part k n s.now (omega arith)
 
--- records that lie within n bytes, and ones that do not
-module _ {n at : ℕ} (count w : ℕ) where
-  pub fits_none : n < at → false ≡ fits n at count w
-  fits_none h = sym (lt-leb (at + count * w) n (omega arith))
-
-  pub fits_empty : at ≤ n → w ≡ 0 → true ≡ fits n at count w
-  fits_empty h e = rw e (sym (le-leb (at + count * 0) n (omega arith)))
-
-  pub fits_is : at ≤ n → (w ≡ 0 → ⊥) → leb count ((n - at) / w) ≡ fits n at count w
-  fits_is h e = go (leb count ((n - at) / w)) refl
-    where
-      p : 0 < w
-      p = omega arith
-
-      go : (t : Bool) → leb count ((n - at) / w) ≡ t → t ≡ fits n at count w
-      go true q =
-          let z : count * w ≤ n - at = (le-div_iff_mul-le p).0 (leb-true count ((n - at) / w) q) in
-          sym (le-leb (at + count * w) n (omega arith))
-      go false q =
-          let z : n - at < count * w = (div-lt_iff_lt-mul p).0 (leb-false count ((n - at) / w) q) in
-          sym (lt-leb (at + count * w) n (omega arith))
+-- what a slice has from i on, handed out by `get`, or nothing
+pub rest_got : {R : Type 0} (now : R → List ℕ) (l : List ℕ) (i : ℕ) (r : Option R) (d : R)
+    → PartBy now l i (length l) r → now d ≡ [] → now (unwrap_or r d) ≡ drop i l
+rest_got now l i None d p e = e ∙ sym (drop_of_length-le l (⊎_elim (λ h. omega arith) (λ h. omega arith) p.0))
+rest_got now l i (Some r) d p e = p.0.2 ∙ take_rest l i
 
 -- a cut by the records' own test: t is what the test said
 pub inside : (s : Bor (List ℕ)) (at count w : ℕ) {t : Bool} → t ≡ fits (length s.now) at count w → t ≡ true

@@ -1,11 +1,9 @@
 -- How a proof goes down the rows of a table.
-use Prim.Native.Nat.{ℕ, zero, suc, ◌<◌}
-use mathlib.Core.Bool.{Bool, true, false, not, ◌&&◌}
-use mathlib.Core.Path.{◌≡◌, refl, sym, ap, ◌∙◌}
-use native.Mathlib.Omega.{arith}
-use lib.Dec.{eqb}
-use borrow.Author.Tests.{lt-ltb, le-ltb, le-leb, lt-leb, eq-eqb, ne_eqb}
-use Rattle.words.specs.First.{◌if◌else◌, refuse}
+use Rattle.std.proofs.Common.{ℕ, zero, suc, ◌<◌, Bool, true, false, not, ◌&&◌, ◌≡◌, refl, sym, ap, ◌∙◌, arith, eqb, lt-ltb, le-ltb, le-leb, eq-eqb}
+use Rattle.std.proofs.Common.{ne_eqb, Result, Ok, Err, is_err}
+use borrow.Author.Tests.{lt-leb}
+use Rattle.std.specs.Prelude.{⊤}
+use Rattle.words.specs.First.{◌if◌else◌, fine, refuse}
 
 -- this row answers
 pub hit : {A : Type 0} (n : A) (b : Bool) (rest : A) → b ≡ true → n ≡ (n if b else rest)
@@ -23,26 +21,25 @@ unfolding ◌if◌else◌
 other n true rest h e = absurd (h e)
 other n false rest h e = (refl, e)
 
--- no row answers: not this one, and none after it
-pub pass : (n : ℕ) (b : Bool) (rest : ℕ) → 0 < n → (n if b else rest) ≡ 0 → (b ≡ false) × (rest ≡ 0)
-pass n b rest h e = other n b rest (λ z. omega arith) e
+-- no row refuses: not this one, and none after it
+pub pass : {E : Type 0} (e : E) (b : Bool) (rest : Result ⊤ E) → (Err e if b else rest) ≡ fine → (b ≡ false) × (rest ≡ fine)
+pass e b rest h = other (Err e) b rest (λ z. cc) h
 
--- a stage refuses by its number; a stage refuses nothing
-pub refuse_some : {A : Type 0} (n : ℕ) (by : ℕ → A) (rest : A) → 0 < n → by n ≡ refuse n by rest
+-- a stage refuses; a stage refuses nothing
+pub refuse_some : {A E : Type 0} {m : Result ⊤ E} {e : E} (by : E → A) (rest : A) → m ≡ Err e → by e ≡ refuse m by rest
 unfolding refuse
-refuse_some zero by rest h = absurd (omega arith)
-refuse_some (suc n) by rest h = refl
+refuse_some by rest h = rw h
 
-pub refuse_none : {A : Type 0} {n : ℕ} (by : ℕ → A) (rest : A) → n ≡ 0 → refuse n by rest ≡ rest
+pub refuse_none : {A E : Type 0} {m : Result ⊤ E} (by : E → A) (rest : A) → m ≡ fine → refuse m by rest ≡ rest
 unfolding refuse
-refuse_none by rest e = rw e
+refuse_none by rest h = rw h
 
 -- the answer is none that refuses: the stage refuses nothing, and what comes after says it
-pub refuse_other : {A : Type 0} (n : ℕ) (by : ℕ → A) (rest : A) {x : A} → ((m : ℕ) → by m ≡ x → ⊥) → refuse n by rest ≡ x
-    → (n ≡ 0) × (rest ≡ x)
+pub refuse_other : {A E : Type 0} (m : Result ⊤ E) (by : E → A) (rest : A) {x : A} → ((e : E) → by e ≡ x → ⊥) → refuse m by rest ≡ x
+    → (m ≡ fine) × (rest ≡ x)
 unfolding refuse
-refuse_other zero by rest h e = (refl, e)
-refuse_other (suc n) by rest h e = absurd (h _ e)
+refuse_other (Ok u) by rest h e = (refl, e)
+refuse_other (Err n) by rest h e = absurd (h _ e)
 
 pub eq_not : (a b : ℕ) → a ≡ b → not (eqb a b) ≡ false
 eq_not a b h = ap not (eq-eqb a b h)

@@ -1,12 +1,7 @@
 -- How a loop that counts up finds the first number at which a test holds, and what the answer says.
-use Prim.Native.Nat.{ℕ, zero, suc, ◌+◌, ◌-◌, ◌≤◌, ◌<◌}
-use mathlib.Core.Bool.{Bool, true, false}
-use mathlib.Core.Path.{◌≡◌, refl, sym, ◌∙◌}
-use mathlib.Core.Logic.{⊎_elim}
-use native.Mathlib.Omega.{arith}
-use native.Mathlib.Nat.{sub-zero, eq-or-lt_of_le}
-use lib.Dec.{ltb}
-use borrow.Author.Tests.{lt-ltb, le-ltb}
+use Rattle.std.proofs.Common.{ℕ, zero, suc, ◌+◌, ◌-◌, ◌≤◌, ◌<◌, Bool, true, false, ◌≡◌, refl, sym, ◌∙◌, ⊎_elim, arith, eq-or-lt_of_le, ltb, lt-ltb}
+use Rattle.std.proofs.Common.{le-ltb}
+use native.Mathlib.Nat.{sub-zero}
 use Rattle.words.proofs.Numbers.{by_order}
 use Rattle.words.proofs.Rows.{eqb_via, neb_via}
 use Rattle.words.specs.First.{◌if◌else◌, first}

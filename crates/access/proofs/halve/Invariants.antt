@@ -1,9 +1,7 @@
 -- `access::halve` meets its contract. The invariant: hi ≤ to, and halving from `lo` to `hi` answers as halving from `from` to `to` does.
--- The measure is hi - lo. Each turn goes below the middle, stops there or goes above it (`turn-less`, `turn-equal`, `turn-greater`); where lo < hi
--- fails nothing is left (`halving-none`).
-use Prim.Native.Nat.{◌-◌, ◌≤◌}
-use mathlib.Core.Path.{◌≡◌}
-use lib.ListN.{length}
+-- The measure is hi - lo. Each turn goes below the middle, stops there or goes above it (`turn_less`, `turn_equal`, `turn_greater`); where lo < hi
+-- fails nothing is left (`halving_none`).
+use Rattle.std.proofs.Common.{◌-◌, ◌≤◌, ◌≡◌, length}
 use Rattle.words.specs.Big.{number}
 use Rattle.access.specs.Lookup.{key_of, halving}
 use Rattle.access.proofs.halve.Given as goal

@@ -1,21 +1,18 @@
-use Rattle.std.proofs.Common.{◌∙◌, arith, length-set, rules}
+use Rattle.std.proofs.Common.{refl, length-set}
 use Rattle.block.specs.Fips.{schedule}
-use Rattle.block.proofs.Schedule.{stored, next_high}
-use Rattle.words.proofs.Fills.{whole}
-use borrow.Author.Rules.{rules}
+use Rattle.block.proofs.Schedule.{own, mixed}
 use Rattle.block.proofs.schedule_of.Goals as goal
 
-pub loop-t-init : goal.loop-t-init
-loop-t-init c = (omega arith, omega arith, search rules, c.loaded-w.ensures)
+pub own-init : goal.own-init
+unfolding schedule
+own-init c = (refl, refl)
 
-pub loop-t-preserved : goal.loop-t-preserved
-loop-t-preserved c =
-    let l = c.loop-t in (
-      omega arith,
-      omega arith,
-      simp length-set l.invariant.2,
-      stored _ _ _ (omega arith) l.invariant.3 (c.rotate.ensures ∙ next_high _ _ _ l.invariant.0),
-    )
+pub own-preserved : goal.own-preserved
+own-preserved c =
+    let l = c.own.invariant in
+    (simp length-set l.0, own _ _ _ _ l.1 c.own-test.true l.0 c.be32.ensures)
 
-pub returns : goal.returns
-returns c = let l = c.loop-t in whole (schedule _) _ _ (omega arith) l.invariant.1 l.invariant.2 l.invariant.3
+pub mixed-preserved : goal.mixed-preserved
+mixed-preserved c =
+    let l = c.mixed.invariant in
+    (simp length-set l.0, mixed _ _ _ _ l.1 c.mixed.auto.t c.mixed-test.true l.0 c.rotate_left.ensures)

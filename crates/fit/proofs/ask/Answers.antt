@@ -1,12 +1,18 @@
 -- `fit::ask` meets its contract: the fit's refusal comes first, then 40 where `i` is not below `n`.
-use Rattle.fit.proofs.Fitting.{ask_misfit, ask_out, ask_fine}
+use Rattle.std.proofs.Common.{arith}
+use Rattle.std.proofs.lemmas.Grind.{common_steps}
+use Rattle.words.specs.First.{◌if◌else◌, ◌or◌}
+use Rattle.fit.specs.Fits.{ask_rule}
 use Rattle.fit.proofs.ask.Goals as goal
 
-pub returns-then-m-gt0 : goal.returns-then-m-gt0
-returns-then-m-gt0 c = ask_misfit _ _ _ _ c.fit-m.ensures c.if-m-gt0.true
+pub returns-in_err-fit : goal.returns-in_err-fit
+unfolding ask_rule ◌or◌
+returns-in_err-fit c = grind (arith, common_steps)
 
 pub returns-then-n-i : goal.returns-then-n-i
-returns-then-n-i c = ask_out _ _ _ _ c.fit-m.ensures c.if-m-gt0.false c.if-n-i.true
+unfolding ask_rule ◌or◌ ◌if◌else◌
+returns-then-n-i c = grind (arith, common_steps)
 
 pub returns : goal.returns
-returns c = ask_fine _ _ _ _ c.fit-m.ensures c.if-m-gt0.false c.if-n-i.false
+unfolding ask_rule ◌or◌ ◌if◌else◌
+returns c = grind (arith, common_steps)

@@ -1,5 +1,5 @@
 -- `rules::trailer` meets its contract: the last w bytes lie in the slice.
-use native.Mathlib.Omega.{arith}
+use Rattle.std.proofs.Common.{arith}
 use Rattle.words.proofs.Parts.{run_in}
 use Rattle.rules.proofs.trailer.Goals as goal
 

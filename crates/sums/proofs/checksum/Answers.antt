@@ -1,20 +1,17 @@
--- `sums::checksum` meets its contract: a record that does not fit has the empty part; else the trailer lies in the bytes (`trailer-room`).
-use mathlib.Core.Path.{refl}
-use native.Mathlib.Omega.{arith}
+-- `sums::checksum` meets its contract: a record that does not fit has the empty part; else the trailer lies in the bytes (`trailer_room`).
+use Rattle.std.proofs.Common.{◌≡◌, refl, arith}
 use Rattle.words.proofs.Parts.{run_in}
-use Rattle.fit.proofs.Fitting.{part_none, part_fine, zero_of}
+use Rattle.words.specs.First.{fine}
+use Rattle.fit.specs.Fits.{fit_rule}
+use Rattle.fit.proofs.Fitting.{no_error, part_none, part_fine}
 use Rattle.sums.proofs.Trailing.{trailer_room}
 use Rattle.sums.proofs.checksum.Goals as goal
 
-pub returns-then-fit-gt0 : goal.returns-then-fit-gt0
-returns-then-fit-gt0 c =
-    part_none _ _ _ _ _ c.fit.ensures c.if-fit-gt0.true
-    (record { block = refl; start = omega arith; bytes = refl })
-
-pub overflow_sub-s : goal.overflow_sub-s
-overflow_sub-s c = omega (arith, trailer_room _ _ c.fit.ensures c.if-fit-gt0.false)
+pub returns-then-is_err : goal.returns-then-is_err
+returns-then-is_err c = part_none _ _ _ _ _ (cc) (record { block = refl; start = omega arith; bytes = refl })
 
 pub returns : goal.returns
 returns c =
-    let h = trailer_room _ _ c.fit.ensures c.if-fit-gt0.false in
-    part_fine _ _ _ _ _ (zero_of c.fit.ensures c.if-fit-gt0.false) (run_in _ _ _ _ (omega arith) c.part.ensures)
+    let k : fit_rule c.args.s.now c.args.f ≡ fine = no_error _ (cc) in
+    let h = trailer_room _ _ k in
+    part_fine _ _ _ _ _ k (run_in _ _ _ _ (omega arith) c.part.ensures)

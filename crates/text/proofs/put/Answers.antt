@@ -1,26 +1,18 @@
-use Prim.Native.Nat.{◌-◌}
-use native.Mathlib.Omega.{arith}
-use Rattle.text.proofs.Places.{put_full, put_begins, put_next, put_ends}
-use borrow.Author.Rules.{rules}
+-- `text::put` meets its contract: what does not fit changes nothing (`after_full`, `written_full`); what fits is pasted (`written_put`).
+use Rattle.std.proofs.Common.{◌≡◌, refl, sym, ◌∙◌, ◌+◌, ◌≤◌, length, arith}
+use Rattle.std.proofs.lemmas.Slice.{put_mid-paste}
+use Rattle.text.proofs.Places.{after_full, written_full, after_put, written_put}
 use Rattle.text.proofs.put.Goals as goal
 
-pub returns-then-out-at : goal.returns-then-out-at
-returns-then-out-at c =
-    let p = put_full c.args.out.now c.args.at c.args.s.now (omega arith) in
-    record { place = p.0; holds = p.1 }
-
-pub returns-then-out-at-2 : goal.returns-then-out-at-2
-returns-then-out-at-2 c =
-    let p = put_full c.args.out.now c.args.at c.args.s.now (omega arith) in
-    record { place = p.0; holds = p.1 }
-
-pub loop-i-init : goal.loop-i-init
-loop-i-init c = put_begins (omega arith)
-
-pub loop-i-preserved : goal.loop-i-preserved
-loop-i-preserved c = put_next c.loop-i.invariant (search rules)
+pub returns-then-out-end : goal.returns-then-out-end
+returns-then-out-end c = record { place = sym (after_full _ _ _ (omega arith)); holds = sym (written_full _ _ _ (omega arith)) }
 
 pub returns : goal.returns
 returns c =
-    let p = put_ends c.loop-i.invariant (omega arith) in
-    record { place = p.0; holds = p.1 }
+    let a = c.args in
+    let e : c.saturating_add-end.result ≡ a.at + length a.s.now = omega arith in
+    let h : a.at + length a.s.now ≤ length a.out.now = omega arith in
+    record {
+      place = e ∙ sym (after_put _ _ _ h);
+      holds = put_mid-paste _ _ _ _ a.s.now (length a.s.now) c.copy_from_slice.ensures.after (omega arith) refl ∙ sym (written_put _ _ _ h);
+    }

@@ -1,40 +1,36 @@
--- `traverse::opened` meets its contract: stage by stage. A trailer that is wrong is refused, then a name, then the first commit that is; each stage
--- stands on what the stages before it left (`file-sum`, `file-name`, `file-commit`, `file-fine`). The list has one record.
-use Prim.Native.Nat.{ℕ, ◌/◌, ◌<◌}
-use mathlib.Core.Bool.{true}
-use mathlib.Core.Path.{◌≡◌, ap, ◌∙◌}
-use lib.Dec.{lit<}
+-- `traverse::opened` meets its contract: stage by stage. A trailer that is wrong is refused, then a name, then the first commit that is
+-- (`file_sum`, `file_name`, `file_commits`). The list has one record.
+use Rattle.std.proofs.Common.{ℕ, ◌/◌, ◌<◌, true, ◌≡◌, sym, ap, ◌∙◌, lit<}
+use Rattle.std.proofs.lemmas.Result.{err_from_is_err_and}
 use Rattle.fit.proofs.Opens.{opened}
-use Rattle.traverse.specs.Traversal.{refused_by}
-use Rattle.traverse.proofs.Traversing.{file_sum, file_name, file_commit, file_fine}
+use Rattle.traverse.specs.Scans.{traversed}
+use Rattle.traverse.proofs.Traversing.{file_sum, file_name, file_commits}
 use Rattle.traverse.proofs.opened.Goals as goal
 
 -- the list has one record
 one_record : {n : ℕ} → n ≡ 32 → 0 < n / 32
 one_record e = rw e (lit< tt)
 
-pub returns-then-a-gt0 : goal.returns-then-a-gt0
-returns-then-a-gt0 c =
-    c.refused.ensures ∙ ap refused_by c.at.ensures
-    ∙ file_sum 32 _ _ c.requires.0 (one_record c.requires.1) c.sum_in-a.ensures c.if-a-gt0.true
+pub commits-requires : goal.commits-requires
+commits-requires c = opened true _ c.requires.0
 
-pub returns-then-b-gt0 : goal.returns-then-b-gt0
-returns-then-b-gt0 c =
-    c.refused-then-b-gt0.ensures ∙ ap refused_by c.at-then-b-gt0.ensures
-    ∙ file_name 32 _ _ c.requires.0 (one_record c.requires.1) c.sum_in-a.ensures c.if-a-gt0.false c.name_in-b.ensures
-    c.if-b-gt0.true
+pub returns-in_err-sum_in : goal.returns-in_err-sum_in
+unfolding traversed
+returns-in_err-sum_in c =
+    let p = err_from_is_err_and c.from_residual.result c.from_residual.ensures.1 in
+    let wrong = sym c.sum_in.ensures ∙ c.in_err-sum_in.was in
+    rw (p.1, p.2) (sym (file_sum 32 _ _ c.requires.0 (one_record c.requires.1) wrong))
 
-pub commits-r-requires : goal.commits-r-requires
-commits-r-requires c =
-    opened true _ c.requires.0
-
-pub returns-then-r-gt0 : goal.returns-then-r-gt0
-returns-then-r-gt0 c =
-    c.refused-then-r-gt0.ensures ∙ ap refused_by c.at-then-r-gt0.ensures
-    ∙ file_commit 32 _ _ c.requires.0 (one_record c.requires.1) c.sum_in-a.ensures c.if-a-gt0.false c.name_in-b.ensures
-    c.if-b-gt0.false c.commits-r.ensures c.if-r-gt0.true
+pub returns-in_err-name_in : goal.returns-in_err-name_in
+unfolding traversed
+returns-in_err-name_in c =
+    let p = err_from_is_err_and c.from_residual-in_err-name_in.result c.from_residual-in_err-name_in.ensures.1 in
+    let fine = sym c.sum_in.ensures ∙ c.in_ok-sum_in.was in
+    let wrong = sym c.name_in.ensures ∙ c.in_err-name_in.was in
+    rw (p.1, p.2) (sym (file_name 32 _ _ c.requires.0 (one_record c.requires.1) fine wrong))
 
 pub returns : goal.returns
 returns c =
-    file_fine 32 _ _ c.requires.0 (one_record c.requires.1) c.sum_in-a.ensures c.if-a-gt0.false c.name_in-b.ensures
-    c.if-b-gt0.false c.commits-r.ensures c.if-r-gt0.false
+    let fine = sym c.sum_in.ensures ∙ c.in_ok-sum_in.was in
+    let named = sym c.name_in.ensures ∙ c.in_ok-name_in.was in
+    ap traversed c.commits.ensures ∙ sym (file_commits 32 _ _ c.requires.0 (one_record c.requires.1) fine named)

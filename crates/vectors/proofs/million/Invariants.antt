@@ -1,6 +1,6 @@
 -- `vectors::million` meets its contract.
 -- The invariant: n is 1 to 131, so that a piece lies in `a` and is not empty. The measure: `left`, which each piece lowers.
-use Prim.Native.Nat.{◌≤◌}
+use Rattle.std.proofs.Common.{◌≤◌}
 use Rattle.vectors.proofs.million.Given as goal
 
 abbrev pub invariant-loop-left : goal.invariant-loop-left

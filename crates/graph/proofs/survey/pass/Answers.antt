@@ -1,51 +1,31 @@
-use Prim.Native.Nat.{◌-◌}
-use mathlib.Core.Path.{◌≡◌, ap}
-use native.Mathlib.Omega.{arith}
-use lib.ListN.{length}
-use Rattle.file.specs.declared.Opening.{Opening}
-use Rattle.graph.specs.Chain.{open_at}
-use Rattle.graph.proofs.Passing.{open_is, pass_begins, pass_refused, pass_next, along_room, pass_ends}
+use Rattle.std.proofs.Common.{ap, arith, length}
+use Rattle.graph.proofs.Passing.{opens_as, pass_begins, pass_next, along_refused, along_room, pass_ends}
 use Rattle.graph.proofs.survey.pass.Goals as goal
 
 pub loop-k-init : goal.loop-k-init
-loop-k-init c = pass_begins _ _ _ c.requires _ _ c.nowhere-mark.ensures
+loop-k-init c = pass_begins _ _ _ c.requires _
 
-pub file_at-s-requires : goal.file_at-s-requires
-file_at-s-requires c = record { listed = c.requires; k_lt_n = (c.loop-k-test.true, c.loop-k.invariant.along.place) }
+pub file_at-s-requires-clause-k_lt_n : goal.file_at-s-requires-clause-k_lt_n
+file_at-s-requires-clause-k_lt_n c = (c.loop-k-test.true, c.loop-k.invariant.along.place)
 
-pub returns-in-Refused : goal.returns-in-Refused
-returns-in-Refused c =
-    rw c.of_file.ensures
-    (pass_refused _ _ _ c.requires c.loop-k.invariant c.loop-k-test.true (open_is _ _ _ _ c.file_at-s.ensures c.open-o.ensures.is c.in-Refused.is))
+pub returns-in_err-f : goal.returns-in_err-f
+returns-in_err-f c =
+    grind (arith, along_refused _ _ _ c.requires _ _ c.loop-k.invariant.along c.loop-k-test.true c.file_at-s.ensures c.in_err-f.ensures)
 
 pub overflow_add-next : goal.overflow_add-next
 overflow_add-next c =
-    let f_k = open_is _ _ _ _ c.file_at-s.ensures c.open-o.ensures.is c.in-Open.is in
-    omega (arith, along_room _ _ _ c.requires _ _ c.loop-k.invariant.along c.loop-k-test.true _ f_k)
+    let e = opens_as _ _ _ _ c.file_at-s.ensures c.in_ok-f.ensures in
+    omega (arith, along_room _ _ _ c.requires _ _ c.loop-k.invariant.along c.loop-k-test.true _ e)
 
 pub overflow_add-at : goal.overflow_add-at
 overflow_add-at c =
-    let f_k = open_is _ _ _ _ c.file_at-s.ensures c.open-o.ensures.is c.in-Open.is in
-    omega (
-      arith,
-      along_room _ _ _ c.requires _ _ c.loop-k.invariant.along c.loop-k-test.true _ f_k,
-      ap length c.file_at-s.ensures,
-    )
-
-pub overflow_add-k : goal.overflow_add-k
-overflow_add-k c =
-    omega (arith, c.loop-k-test.true, c.requires.few)
-
-pub loop-k-smaller : goal.loop-k-smaller
-loop-k-smaller c =
-    omega (arith, c.loop-k-test.true)
+    let e = opens_as _ _ _ _ c.file_at-s.ensures c.in_ok-f.ensures in
+    omega (arith, along_room _ _ _ c.requires _ _ c.loop-k.invariant.along c.loop-k-test.true _ e, ap length c.file_at-s.ensures)
 
 pub loop-k-preserved : goal.loop-k-preserved
 loop-k-preserved c =
-    rw c.kept-x.ensures
-    (pass_next _ _ _ c.requires c.loop-k.invariant c.loop-k-test.true
-    (open_is _ _ _ _ c.file_at-s.ensures c.open-o.ensures.is c.in-Open.is) (ap length c.file_at-s.ensures))
+    let e = opens_as _ _ _ _ c.file_at-s.ensures c.in_ok-f.ensures in
+    rw c.kept-spot.ensures (pass_next _ _ _ c.requires c.loop-k.invariant c.loop-k-test.true e (ap length c.file_at-s.ensures))
 
 pub returns : goal.returns
-returns c =
-    rw c.at.ensures (pass_ends _ _ _ c.requires c.loop-k.invariant c.loop-k-test.false)
+returns c = pass_ends _ _ _ c.requires c.loop-k.invariant c.loop-k-test.false

@@ -1,13 +1,15 @@
 -- `hasher::Hasher::finish` meets its contract: the mark and its zeros (`mark`, `zeros`) and the length are two pieces, and two pieces are one
 -- (`together`).
-use Rattle.std.proofs.Common.{◌≡◌, ℕ, ◌+◌, ◌-◌, ◌%◌, ◌∷◌, length, take, replicate, sym, ap, ◌∙◌, arith, length-take, rules}
+use Rattle.std.proofs.Common.{◌≡◌, ℕ, ◌+◌, ◌-◌, ◌*◌, ◌%◌, ◌∷◌, length, take, replicate, sym, ap, ◌∙◌, arith, length-take, rules}
 use Rattle.words.specs.First.{first}
+use Rattle.words.specs.Big.{bytes_of}
+use Rattle.words.proofs.Numbers.{bytes_same}
 use Rattle.hasher.specs.Message.{fills, padding}
 use Rattle.hasher.specs.State.{finished}
 use Rattle.hasher.specs.declared.Hasher.{Hasher}
 use Rattle.hasher.proofs.Fed.{mark, zeros}
+use Rattle.hasher.proofs.Arrays.{be_bytes}
 use Rattle.hasher.proofs.Laws.{together}
-use borrow.Author.Rules.{rules}
 use Rattle.hasher.proofs.Hasher.finish.Goals as goal
 
 pub slice_bounds-update-end : goal.slice_bounds-update-end
@@ -21,5 +23,7 @@ returns c =
     let g : length h.block ≡ 64 = search rules in
     let m : take {A = ℕ} (1 + z) (0x80 ∷ replicate 63 0) ≡ 0x80 ∷ replicate (first (fills h.count) 0 64) 0 =
     mark z (omega arith) ∙ ap (λ (k : ℕ). 0x80 ∷ replicate k 0) (sym (zeros _)) in
-    rw (c.update-h.ensures, c.update.ensures, m, c.length_bytes-size.ensures, together h _ _ g)
+    let b : c.to_be_bytes-size.result ≡ bytes_of 8 (8 * h.count) =
+    c.to_be_bytes-size.ensures ∙ be_bytes 8 _ ∙ bytes_same 8 _ (8 * h.count) (omega arith) in
+    rw (c.update-h.ensures, c.update.ensures, m, b, together h _ _ g)
     at c.digest.ensures

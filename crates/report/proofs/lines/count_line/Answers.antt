@@ -1,6 +1,5 @@
 -- `report::lines::count_line` meets its contract: four texts, one behind the other, where n is above 0, and none else.
-use native.Mathlib.Omega.{arith}
-use borrow.Author.Tests.{lt-ltb, le-ltb}
+use Rattle.std.proofs.Common.{arith, lt-ltb, le-ltb}
 use Rattle.words.specs.First.{◌if◌else◌}
 use Rattle.report.specs.Output.{line, others, count_line}
 use Rattle.report.proofs.Putting.{nothing, within, ◌then◌}

@@ -1,8 +1,7 @@
 -- `report::lines::figure` meets its contract: a space, then a number of at most 20 digits.
-use native.Mathlib.Omega.{arith}
+use Rattle.std.proofs.Common.{arith, rules}
 use Rattle.text.proofs.Decimal.{dec_length}
 use Rattle.report.proofs.Putting.{puts, ◌then◌}
-use borrow.Author.Rules.{rules}
 use Rattle.report.proofs.lines.figure.Goals as goal
 
 pub returns : goal.returns

@@ -1,6 +1,5 @@
 -- `report::lines::key` meets its contract: the word is the one that `keyWord` has for 65, and for all other keys.
-use native.Mathlib.Omega.{arith}
-use borrow.Author.Tests.{eq-eqb, ne_eqb}
+use Rattle.std.proofs.Common.{arith, eq-eqb, ne_eqb}
 use Rattle.words.specs.First.{◌if◌else◌}
 use Rattle.report.specs.Output.{key_word}
 use Rattle.report.proofs.Putting.{within}

@@ -1,5 +1,5 @@
 -- `report::lines::length` meets its contract: each case of the length is the row of `lengthWord` that it names.
-use native.Mathlib.Omega.{arith}
+use Rattle.std.proofs.Common.{arith}
 use Rattle.report.specs.Output.{length_word}
 use Rattle.report.proofs.Putting.{within}
 use Rattle.report.proofs.lines.length.Goals as goal

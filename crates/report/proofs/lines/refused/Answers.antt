@@ -6,4 +6,5 @@ use Rattle.report.proofs.lines.refused.Goals as goal
 pub returns : goal.returns
 unfolding line others
 returns c =
-    c.word-a.ensures then c.figure-b.ensures then c.figure-c.ensures then c.figure-d.ensures then c.word.ensures
+    rw (← c.number.ensures)
+    (c.word-a.ensures then c.figure-b.ensures then c.figure-c.ensures then c.figure-d.ensures then c.word.ensures)

@@ -1,5 +1,5 @@
 -- `report::lines::word` meets its contract: `put` writes the whole text, for there is room.
-use native.Mathlib.Nat.{le_refl}
+use Rattle.std.proofs.Common.{le_refl}
 use Rattle.report.proofs.Putting.{puts}
 use Rattle.report.proofs.lines.word.Goals as goal
 

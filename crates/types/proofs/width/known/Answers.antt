@@ -1,5 +1,5 @@
 -- `types::width::known` meets its contract: the test is the definition's own.
-use mathlib.Core.Path.{refl}
+use Rattle.std.proofs.Common.{refl}
 use Rattle.types.specs.Width.{known}
 use Rattle.types.proofs.width.known.Goals as goal
 

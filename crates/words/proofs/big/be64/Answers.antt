@@ -1,5 +1,5 @@
--- `words::big::be64` meets its contract: four bytes and four more (`be-split`); past the end there is nothing to read (`be-past`).
-use native.Mathlib.Omega.{arith}
+-- `words::big::be64` meets its contract: four bytes and four more (`be_split`); past the end there is nothing to read (`be_past`).
+use Rattle.std.proofs.Common.{arith}
 use Rattle.words.proofs.Numbers.{be_past, be_split}
 use Rattle.words.proofs.big.be64.Goals as goal
 

@@ -1,6 +1,0 @@
--- `access::oidl` meets its contract: a record that fits has the part inside the file (`records-in`).
-use Rattle.words.proofs.Parts.{records_in}
-use Rattle.access.proofs.oidl.Goals as goal
-
-pub returns : goal.returns
-returns c = records_in _ _ _ _ _ c.requires.ids c.part.ensures

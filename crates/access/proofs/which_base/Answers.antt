@@ -1,6 +1,0 @@
--- `access::which_base` meets its contract: the number is what `ask` ensures.
-use Rattle.types.proofs.Saying.{answers}
-use Rattle.access.proofs.which_base.Goals as goal
-
-pub returns : goal.returns
-returns c = answers (rw c.ask.ensures at c.asked.ensures)

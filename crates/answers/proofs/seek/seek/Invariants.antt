@@ -1,9 +1,0 @@
--- `answers::seek::seek` meets its contract. The invariant: i ≤ n. The measure: the commits left.
-use Prim.Native.Nat.{◌≤◌, ◌-◌}
-use Rattle.answers.proofs.seek.seek.Given as goal
-
-abbrev pub invariant-loop-i : goal.invariant-loop-i
-invariant-loop-i l = l.i ≤ l.n
-
-abbrev pub decreases-loop-i : goal.decreases-loop-i
-decreases-loop-i l = l.n - l.i

@@ -1,8 +1,0 @@
--- `chains::step::walk` meets its contract. The invariant says nothing. The measure: `left`, the turns.
-use Rattle.chains.proofs.step.walk.Given as goal
-
-abbrev pub invariant-loop-left : goal.invariant-loop-left
-invariant-loop-left l = Unit {0}
-
-abbrev pub decreases-loop-left : goal.decreases-loop-left
-decreases-loop-left l = l.left

@@ -1,7 +1,0 @@
--- `exports::single::jampreso_file_entry` meets its contract: the image of what `entry_at` answers of the record's file.
-use mathlib.Core.Path.{ap, ◌∙◌}
-use Rattle.flat.specs.Images.{flat_asked}
-use Rattle.exports.proofs.single.jampreso_file_entry.Goals as goal
-
-pub returns : goal.returns
-returns c = rw (← c.file_of.ensures) (c.asked_flat.ensures ∙ ap flat_asked c.entry_at.ensures.is)

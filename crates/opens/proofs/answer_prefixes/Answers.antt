@@ -1,6 +1,0 @@
-use native.Mathlib.Omega.{arith}
-use lib.ListN.{length-take}
-use Rattle.opens.proofs.answer_prefixes.Goals as goal
-
-pub slice_bounds-answer_file-end : goal.slice_bounds-answer_file-end
-slice_bounds-answer_file-end c = simp length-take (omega arith)
