@@ -8,7 +8,7 @@ mod lines;
 mod seek;
 mod walk;
 
-use cases::record::each;
+use cases::record::{Answers, each};
 use cases::step::phase_of;
 use file::File;
 use file::init::open;
@@ -62,16 +62,19 @@ fn answer_step(s: &[u8]) -> bool {
     true
 }
 
-// Answers one record. Says whether its kind is known.
-fn answer(kind: u8, s: &[u8]) -> bool {
-    match kind {
-        b'g' => answer_open(s),
-        b's' => return answer_step(s),
-        _ => return false,
+struct Replies;
+
+impl Answers for Replies {
+    fn answer(&self, kind: u8, s: &[u8]) -> bool {
+        match kind {
+            b'g' => answer_open(s),
+            b's' => return answer_step(s),
+            _ => return false,
+        }
+        true
     }
-    true
 }
 
 fn main() {
-    each(answer);
+    each(&Replies);
 }

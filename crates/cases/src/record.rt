@@ -42,17 +42,21 @@ pub fn read(buf: &mut [u8]) -> Option<Record>
     })
 }
 
-// Hands each record's kind and bytes to `answer`, until that says that no more are to be read, or there are none. The turns are
-// counted, for nothing says that the input ends.
-pub fn each<F: Fn(u8, &[u8]) -> bool>(answer: F)
-    requires { F.IsAlwaysCallable answer }
-{
+// Who answers records. A trait and no closure: to call one that is passed in would need a `requires`.
+pub trait Answers {
+    // Answers one record. Says whether its kind is known.
+    fn answer(&self, kind: u8, bytes: &[u8]) -> bool;
+}
+
+// Hands each record to who answers them, until one's kind is not known, or there are none. The turns are counted, for nothing says
+// that the input ends.
+pub fn each<A: Answers>(program: &A) {
     for _ in 0..u64::MAX {
         let mut bytes = room();
         let Some(r) = read(&mut bytes) else {
             return;
         };
-        if !answer(r.kind, &bytes[..r.size]) {
+        if !program.answer(r.kind, &bytes[..r.size]) {
             return;
         }
     }

@@ -12,7 +12,7 @@ mod show;
 mod step;
 mod whole;
 
-use cases::record::each;
+use cases::record::{Answers, each};
 use listed::lists;
 use show::{found, positions};
 use step::steps;
@@ -46,11 +46,15 @@ fn ask(kind: u8, chain: &[u8], list: &[u8], asked: &[u8]) -> bool {
     true
 }
 
-fn answer(kind: u8, s: &[u8]) -> bool {
-    let more = rest(s);
-    ask(kind, rest(more), lead(s), lead(more))
+struct Chains;
+
+impl Answers for Chains {
+    fn answer(&self, kind: u8, s: &[u8]) -> bool {
+        let more = rest(s);
+        ask(kind, rest(more), lead(s), lead(more))
+    }
 }
 
 fn main() {
-    each(answer);
+    each(&Chains);
 }

@@ -3,7 +3,7 @@
 // What it reads and what it must print is made by `python3 tests/opens.py crates/opens`.
 #![tactic(auto)]
 
-use cases::record::each;
+use cases::record::{Answers, each};
 use file::File;
 use file::init::open;
 use name::Name;
@@ -49,17 +49,20 @@ fn answer_name(s: &[u8]) {
     print(b"\n");
 }
 
-// Answers one record. Says whether its kind is known.
-fn answer(kind: u8, s: &[u8]) -> bool {
-    match kind {
-        b'f' => answer_file(s),
-        b'c' => answer_prefixes(s),
-        b'n' => answer_name(s),
-        _ => return false,
+struct Opens;
+
+impl Answers for Opens {
+    fn answer(&self, kind: u8, s: &[u8]) -> bool {
+        match kind {
+            b'f' => answer_file(s),
+            b'c' => answer_prefixes(s),
+            b'n' => answer_name(s),
+            _ => return false,
+        }
+        true
     }
-    true
 }
 
 fn main() {
-    each(answer);
+    each(&Opens);
 }

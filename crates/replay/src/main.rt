@@ -6,7 +6,7 @@
 
 mod single;
 
-use cases::record::each;
+use cases::record::{Answers, each};
 use prints::print::print;
 use report::report;
 use single::single;
@@ -18,19 +18,22 @@ fn answer(input: &[u8]) {
     print(&out[..size]);
 }
 
-// Answers one record. Says whether its kind is known.
-fn ask(kind: u8, input: &[u8]) -> bool {
-    match kind {
-        b'v' => answer(input),
-        b't' => {
-            answer(input);
-            single(input);
+struct Replay;
+
+impl Answers for Replay {
+    fn answer(&self, kind: u8, input: &[u8]) -> bool {
+        match kind {
+            b'v' => answer(input),
+            b't' => {
+                answer(input);
+                single(input);
+            }
+            _ => return false,
         }
-        _ => return false,
+        true
     }
-    true
 }
 
 fn main() {
-    each(ask);
+    each(&Replay);
 }
