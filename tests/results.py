@@ -1,7 +1,9 @@
-"""For each public function of the library, the lines that show: any two results that its promise allows on the same arguments are equal.
+"""For each public function of the library, and each conversion by `From`, the lines that show: any two results that its promise allows on the
+same arguments are equal.
 
 Makes crates/NAME/proofs/Results.antt from the sources. A lemma is stated over the promise as the function's caller learns it
-(`Reads.Learnt`, which the prover makes of the contract itself), so nothing of a contract is written twice. With --check nothing is written, and a file that differs, or a public function that has no lemma and no row in docs/EXCEPTIONS.md, is told and fails.
+(`Reads.Learnt`, which the prover makes of the contract itself), so nothing of a contract is written twice. With --check nothing is written, and a
+file that differs, or a public function or a conversion that has no lemma and no row in docs/EXCEPTIONS.md, is told and fails.
 """
 import re
 import sys
@@ -46,6 +48,20 @@ def public(text):
             end += 1
         whole = "\n".join(lines[at : end + 1])
         yield kind, m.group(2), whole
+
+
+def snake(word):
+    return re.sub(r"(?<=[a-z0-9])(?=[A-Z])", "_", word).lower()
+
+
+def conversions(text):
+    """Each conversion by `From`: the name that the prover has for it, a short name, one that tells it from others to that type, and what it gives."""
+    for m in re.finditer(r"(?ms)^impl\b[^{]*?\bFrom<([^{]+)>\s+for\s+(\w+).*?^}$", text):
+        words = re.findall(r"\w+", m.group(1).replace("()", "Unit"))
+        short = snake(m.group(2)) + "_from"
+        told = "_".join([short, *(snake(w) for w in words if w not in ("Result", "Option", "Refusal"))])
+        gives = re.search(r"(?s)ghost from_gives = \{\s*λ \S+ r\.\s+(.*?)\s*\};", m.group(0))
+        yield f"{m.group(2)}From" + "".join(w[0].upper() + w[1:] for w in words), short, told, gives.group(1) if gives else ""
 
 
 def parameters(whole):
@@ -116,6 +132,18 @@ def short_names(file):
 def page(crate):
     """The text of a crate's Results.antt, and the functions that it cannot speak of."""
     uses, body, missing, seen, given = [], [], [], set(), short_names(crate / "proofs/Results.antt")
+
+    def add(path, short, longer, found):
+        """The lemmas of one function, under its short name, or the longer one where that is taken."""
+        short = longer if short in seen else short
+        seen.add(short)
+        module = ".".join([f"Rattle.{crate.name}.proofs", *path, "Reads"])
+        alias = given.get(module, RESERVED.get(short, short))
+        uses.append(f"use {module} as {alias}\n")
+        for ending, claim, proof in found:
+            said = claim.format(alias + ".Learnt")
+            body.append(f"\npub {short}_{ending} : {said}\n{short}_{ending} κs a y z d e p q = {proof}\n")
+
     for path, text in sources(crate):
         for kind, name, whole in public(text):
             if (crate.name, name) in BY_HAND:
@@ -131,16 +159,12 @@ def page(crate):
             if "determined" not in [x[0] for x in found] and ") ->" in whole or not found:
                 missing.append((path, name))
                 continue
-            short = name
-            if short in seen:
-                short = "_".join([*path, name])
-            seen.add(short)
-            module = ".".join([f"Rattle.{crate.name}.proofs", *path, *([kind] if kind else []), name, "Reads"])
-            alias = given.get(module, RESERVED.get(short, short))
-            uses.append(f"use {module} as {alias}\n")
-            for ending, claim, proof in found:
-                said = claim.format(alias + ".Learnt")
-                body.append(f"\npub {short}_{ending} : {said}\n{short}_{ending} κs a y z d e p q = {proof}\n")
+            add([*path, *([kind] if kind else []), name], name, "_".join([*path, name]), found)
+        for name, short, told, gives in conversions(text):
+            if gives.startswith("r ≡ "):
+                add([*path, name, "from"], short, told, [("determined", "Determined {}", "same p q")])
+            else:
+                missing.append((path, f"{name}::from"))
     if not body:
         return None, missing
     words = "".join(body)

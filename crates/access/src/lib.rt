@@ -18,29 +18,26 @@ use types::file::Position;
 use types::refusal;
 use types::refusal::{Reason, Refusal};
 use words::big::be32;
+use words::part::part;
 
 // The id of a commit: the part of `s` that stores it, itself and no copy. Empty where `which` refuses.
-#[tactic(auto, using(fit::proofs::Fitting::no_error, fit::proofs::Fitting::answered, fit::proofs::Fitting::run_within))]
 pub fn id_at<'a>(s: &'a [u8], f: File, pos: Position) -> &'a [u8]
     ensures { AskedPart s.entry (ask_rule s.now f f.commits pos.0) (f.oidl + pos.0 * f.width) f.width result }
 {
-    if ask(s, f, f.commits, pos.0).is_err() {
-        return &s[..0];
+    match Fit::asked(s, f, f.commits, pos.0) {
+        Ok(fit) => part(fit.ids(), (pos.0 as usize) * f.width, f.width, 1),
+        Err(_) => &s[..0],
     }
-    let id = f.oidl + (pos.0 as usize) * f.width;
-    &s[id..id + f.width]
 }
 
 // The id of base `j`, likewise. Empty where `which_base` refuses.
-#[tactic(auto, using(fit::proofs::Fitting::no_error, fit::proofs::Fitting::answered, fit::proofs::Fitting::run_within))]
 pub fn base_at<'a>(s: &'a [u8], f: File, j: u32) -> &'a [u8]
     ensures { AskedPart s.entry (ask_rule s.now f f.bases j) (f.base + j * f.width) f.width result }
 {
-    if ask(s, f, f.bases as u32, j).is_err() {
-        return &s[..0];
+    match Fit::asked(s, f, f.bases as u32, j) {
+        Ok(fit) => part(fit.base(), (j as usize) * f.width, f.width, 1),
+        Err(_) => &s[..0],
     }
-    let base = f.base + (j as usize) * f.width;
-    &s[base..base + f.width]
 }
 
 // Which refusal the id of a commit meets.

@@ -1,9 +1,9 @@
 -- A loop over commits that stops at the first refusal, and what it adds up on the way: one commit more.
-use Rattle.std.proofs.Common.{ℕ, ◌+◌, ◌-◌, ◌≤◌, ◌<◌, min, max, List, Bool, ◌≡◌, sym, ap, ◌∙◌, arith, add-one, ltb, get_or, set, lt-ltb, le-ltb}
-use Rattle.std.proofs.Common.{Result, Err, is_err}
+use Rattle.std.proofs.Common.{ℕ, ◌+◌, ◌-◌, ◌≤◌, ◌<◌, min, max, List, Bool, true, false, ◌≡◌, refl, sym, ap, ◌∙◌, arith, add-one, ltb, get_or, set}
+use Rattle.std.proofs.Common.{lt-ltb, le-ltb, ltb-true, ltb-false, Result, Ok, Err, is_err}
 use Rattle.std.specs.Prelude.{⊤}
 use Rattle.words.specs.First.{◌if◌else◌, fine, first}
-use Rattle.words.proofs.Searches.{first_begins, first_stop, first_step, first_ends}
+use Rattle.words.proofs.Searches.{first_begins, first_stop, first_step, first_ends, first_hit, first_none}
 use Rattle.ancestry.specs.Graph.{highest_below}
 use Rattle.ancestry.specs.Counts.{counts_of, lowest_below}
 use Rattle.ancestry.proofs.Counts.{highest_next, lowest_first, lowest_next, counts_next, counts_le}
@@ -37,6 +37,33 @@ module _ {E : Type 0} (rule : ℕ → Result ⊤ E) {bad : ℕ → Bool} (is : (
   sofar_ends l =
       let b : i ≡ first bad 0 n = first_ends bad n i s.rest l in
       (b, rw (← b, le-ltb i n l))
+
+-- n commits meet no refusal exactly where none of them does
+fine_of : {E : Type 0} (m : Result ⊤ E) → is_err m ≡ false → m ≡ fine
+fine_of (Ok u) e = refl
+fine_of (Err r) e = absurd (cc)
+
+module _ {E : Type 0} (rule : ℕ → Result ⊤ E) (bad : ℕ → Bool) (is : (i : ℕ) → bad i ≡ is_err (rule i)) (n : ℕ) where
+  pub rule_none : first_rule rule bad n ≡ fine → (i : ℕ) → i < n → rule i ≡ fine
+  unfolding ◌if◌else◌
+  rule_none = go (ltb (first bad 0 n) n) refl
+    where
+      go : (t : Bool) → ltb (first bad 0 n) n ≡ t → (rule (first bad 0 n) if t else fine) ≡ fine → (i : ℕ) → i < n → rule i ≡ fine
+      go true e z i l =
+          let h : first bad 0 n < n = ltb-true _ _ e in
+          let b : is_err (rule (first bad 0 n)) ≡ true = sym (is _) ∙ first_hit bad 0 n (omega arith) in
+          absurd (cc)
+      go false e z i l =
+          let h : n ≤ first bad 0 n = ltb-false _ _ e in
+          fine_of (rule i) (sym (is i) ∙ first_none bad 0 n (omega arith) i (omega arith) (omega arith))
+
+  pub rule_all : ((i : ℕ) → i < n → rule i ≡ fine) → first_rule rule bad n ≡ fine
+  unfolding ◌if◌else◌
+  rule_all h = go (ltb (first bad 0 n) n) refl
+    where
+      go : (t : Bool) → ltb (first bad 0 n) n ≡ t → (rule (first bad 0 n) if t else fine) ≡ fine
+      go true e = h (first bad 0 n) (ltb-true _ _ e)
+      go false e = refl
 
 -- ── sums: x is what the commits below n came to, g what commit n has ──
 

@@ -33,8 +33,17 @@ use Rattle.audit.proofs.Meeting.{met_by, met_all}
 use Rattle.audit.proofs.Tabling.{is_open}
 use Rattle.graph.proofs.Passing.{few_positions}
 
+-- a commit that is stopped is refused
+pub stopped_is : {e : Reason} {r : Result Tried Reason} → r ≡ told (Err e) 0 0 → r ≡ Err e
+unfolding refuse
+stopped_is p = p
+
 -- the ways through a commit, by how its row was answered and its parents were met; f is one more than the highest among theirs
 module _ (limit : ℕ) (gen : ℕ → ℕ) (row : Result Commit Refusal) (edge : Option (List ℕ)) where
+  pub tried_bad : {r : Refusal} → row ≡ Err r → tried_of limit gen row edge ≡ Err r.reason
+  unfolding tried_of
+  tried_bad d = rw d refl
+
   pub tried_row : (e : Reason) → ((r : Refusal) → row ≡ Err r → r.reason ≡ e) → ((x : Commit) → row ≡ Ok x → ⊥) → tried_of limit gen row edge ≡ Err e
   unfolding tried_of
   tried_row e f n = go row refl

@@ -10,7 +10,7 @@ use super::tables::Row;
 use commit::Commit;
 use file::File;
 use fit::parts::Fit;
-use tries::{Tried, key, row_in};
+use tries::{Tried, key, row_in, stopped};
 use types::refusal;
 use types::refusal::{Reason, Refusal};
 
@@ -39,10 +39,16 @@ fn attempt(
     requires { Home chain.now table.now i }
     ensures { TriedAs chain.now table.now i row (shown edge.entry) result }
 {
-    let commit = row.map_err(|refusal| refusal.reason)?;
-    let met = meet(chain, table, i, commit.first, commit.second, edge)?;
+    let commit = match row {
+        Ok(commit) => commit,
+        Err(refusal) => return stopped(refusal.reason),
+    };
+    let met = match meet(chain, table, i, commit.first, commit.second, edge) {
+        Ok(met) => met,
+        Err(reason) => return stopped(reason),
+    };
     if commit.generation != right(met.highest) {
-        return Err(Reason::Generation);
+        return stopped(Reason::Generation);
     }
     Ok(Tried {
         parents: met.parents,

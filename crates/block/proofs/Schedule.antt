@@ -6,7 +6,7 @@ use Rattle.words.specs.First.{◌if◌else◌}
 use Rattle.block.specs.Fips.{rotl, next, schedule, round, rounds}
 
 -- a store of the next word makes the first t words the first t + 1
-stored : (m w : List ℕ) (t : ℕ) {v : ℕ} → t < length w → take t w ≡ schedule m t → v ≡ next m (take t w) t
+pub stored : (m w : List ℕ) (t : ℕ) {v : ℕ} → t < length w → take t w ≡ schedule m t → v ≡ next m (take t w) t
     → take (t + 1) (set w t v) ≡ schedule m (t + 1)
 unfolding schedule
 stored m w t {v} h e n = grown (schedule m) w t v h e (rw (n, e))

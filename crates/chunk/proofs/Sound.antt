@@ -3,8 +3,8 @@ use Rattle.std.proofs.Common.{ℕ, ◌+◌, ◌*◌, ◌<◌, ◌≤◌, List, f
 use Rattle.std.proofs.lemmas.Grind.{common_steps}
 use Rattle.std.specs.Prelude.{⊤}
 use Rattle.words.specs.First.{◌if◌else◌, first, fine}
-use Rattle.words.proofs.Searches.{first_none, first_hit}
-use Rattle.chunk.specs.Index.{chunks, off_at, is_at, range_rule, entry_rule, bad, bad_entry, index_rule, chunk_at, chunk_of, Indexed, Lies}
+use Rattle.words.proofs.Searches.{first_le, first_none, first_hit}
+use Rattle.chunk.specs.Index.{chunks, off_at, is_at, range_rule, entry_rule, bad, bad_entry, index_rule, index_place, chunk_at, chunk_of, Indexed, Lies}
 
 -- an entry that is not refused
 entry_fine : (l : List ℕ) (i : ℕ) → entry_rule l i ≡ fine
@@ -18,11 +18,13 @@ no_error (Ok u) h = refl
 no_error (Err e) h = cc
 
 -- a sound index has no entry that is refused
-none_bad : (l : List ℕ) → index_rule l ≡ fine → (i : ℕ) → i < chunks l → entry_rule l i ≡ fine
+none_first : (l : List ℕ) → index_rule l ≡ fine → chunks l ≤ first (bad l) 0 (chunks l)
 unfolding index_rule bad_entry bad ◌if◌else◌
-none_bad l e i g =
-    let n : chunks l ≤ first (bad l) 0 (chunks l) = grind (arith, common_steps, first_hit) in
-    no_error _ (first_none (bad l) 0 (chunks l) (omega arith) i (omega arith) (omega arith))
+none_first l e = grind (arith, common_steps, first_hit)
+
+none_bad : (l : List ℕ) → index_rule l ≡ fine → (i : ℕ) → i < chunks l → entry_rule l i ≡ fine
+unfolding bad
+none_bad l e i g = no_error _ (first_none (bad l) 0 (chunks l) (omega (arith, none_first l e)) i (omega arith) (omega arith))
 
 pub indexed : (l : List ℕ) → index_rule l ≡ fine → Indexed l
 unfolding index_rule ◌if◌else◌
@@ -33,6 +35,13 @@ indexed l e =
       order = λ i g. (entry_fine l i (none_bad l e i g)).1;
       within = λ i g. (entry_fine l i (none_bad l e i g)).2;
     }
+
+-- the place of a sound index is its last entry
+pub sound_place : (l : List ℕ) → index_rule l ≡ fine → index_place l ≡ chunks l
+unfolding index_place bad_entry ◌if◌else◌
+sound_place l e =
+    let p : first (bad l) 0 (chunks l) ≡ chunks l = omega (arith, none_first l e, first_le (bad l) 0 (chunks l)) in
+    grind (arith, common_steps, (indexed l e).room)
 
 -- where a chunk of a sound index lies
 pub lies : {l : List ℕ} (x : ℕ) → Indexed l → Lies (length l) (20 + 12 * chunks l) (chunk_of l x)

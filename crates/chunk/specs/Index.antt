@@ -67,6 +67,10 @@ index_place l =
     0 if ltb (length l) (20 + 12 * chunks l) else
     bad_entry l
 
+-- the whole index checked: its refusal, or how many entries it has, the last left out
+unfoldable pub checked_of : List ℕ → Result ℕ Refusal
+checked_of l = refuse (index_rule l) (λ e. Err (refusal e (index_place l))) (Ok (chunks l))
+
 -- the chunk of entry e, and the chunk with the id x: it runs to the next entry's offset
 unfoldable pub chunk_at : List ℕ → ℕ → Option Span
 chunk_at l e = Some (record { start = off_at l e; end = off_at l (e + 1) })

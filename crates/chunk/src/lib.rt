@@ -6,8 +6,7 @@ mod index;
 ghost use Rattle.std.specs.Prelude.{◌≡◌, ◌+◌, is_none};
 ghost use Rattle.chunk.specs.Said.{chunk_said, indexed_said};
 ghost use Rattle.types.specs.Said.{Answers};
-ghost use Rattle.types.specs.Refusals.{refused_at};
-ghost use Rattle.chunk.specs.Index.{chunks, off_at, chunk_of, start_of, size_of, index_rule, index_place, nth_of};
+ghost use Rattle.chunk.specs.Index.{chunks, off_at, chunk_of, start_of, size_of, checked_of, nth_of};
 
 use index::{count, entry_rule, id, offset, seek, span};
 use types::refusal;
@@ -64,9 +63,9 @@ pub fn end(s: &[u8]) -> usize
     offset(s, count(s))
 }
 
-// Refusals 6 to 9 of the index.
-pub fn check(s: &[u8]) -> Result<(), Refusal>
-    ensures { result ≡ refused_at (index_rule s.now) (index_place s.now) }
+// Refusals 6 to 9 of the index; where it is sound, how many entries it has, the last left out.
+pub fn check(s: &[u8]) -> Result<usize, Refusal>
+    ensures { result ≡ checked_of s.now }
 {
     let c = count(s);
     if s.len() < 20 + 12 * c {
@@ -78,7 +77,7 @@ pub fn check(s: &[u8]) -> Result<(), Refusal>
     if id(s, c) != 0 {
         return Err(refusal::at(Reason::IndexId, c as u64));
     }
-    Ok(())
+    Ok(c)
 }
 
 // Entry `k` of a sound index, the last left out; 6 to 9 where the index is not sound.

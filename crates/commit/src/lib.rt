@@ -8,12 +8,12 @@ ghost use Rattle.commit.specs.Commits.{edge_of, row_rule, commit_of, commit_in, 
 ghost use Rattle.fit.specs.Fits.{ask_rule, AskedPart};
 
 use file::File;
-use fit::ask;
 use fit::parts::Fit;
 use types::graph::Position;
 use types::refusal::{Reason, Refusal};
 use types::width::known;
 use words::big::be32;
+use words::part::part;
 
 // A parent word: none, a position in the chain, or an index into EDGE.
 #[derive(Clone, Copy)]
@@ -84,7 +84,7 @@ pub fn commit_in(cdat: &[u8], w: usize, pos: types::file::Position) -> Result<Co
 }
 
 // A commit of a file.
-#[tactic(auto, using(crate::proofs::Words::fields_room), unfolding(crate::specs::Commits::commit_at, words::specs::First::refuse))]
+#[tactic(auto, using(crate::proofs::Words::asked_room), unfolding(crate::specs::Commits::commit_at, words::specs::First::refuse))]
 pub fn commit_at(s: &[u8], f: File, pos: types::file::Position) -> Result<Commit, Refusal>
     ensures { Answers asked_said result (commit_at s.now f pos.0) }
 {
@@ -94,13 +94,11 @@ pub fn commit_at(s: &[u8], f: File, pos: types::file::Position) -> Result<Commit
 }
 
 // The tree of a commit: the part of `s` that stores it, itself and no copy. Empty where the commit is refused.
-#[tactic(auto, using(fit::proofs::Fitting::no_error, fit::proofs::Fitting::answered, fit::proofs::Fitting::run_within))]
 pub fn tree_at<'a>(s: &'a [u8], f: File, pos: types::file::Position) -> &'a [u8]
     ensures { AskedPart s.entry (ask_rule s.now f f.commits pos.0) (f.cdat + pos.0 * (f.width + 16)) f.width result }
 {
-    if ask(s, f, f.commits, pos.0).is_err() {
-        return &s[..0];
+    match Fit::asked(s, f, f.commits, pos.0) {
+        Ok(fit) => part(fit.rows(), (pos.0 as usize) * (f.width + 16), f.width, 1),
+        Err(_) => &s[..0],
     }
-    let tree = f.cdat + (pos.0 as usize) * (f.width + 16);
-    &s[tree..tree + f.width]
 }

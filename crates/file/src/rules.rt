@@ -1,7 +1,7 @@
 // Opening's refusals, stage by stage.
 ghost use Rattle.std.specs.Prelude.{◌≡◌, ◌/◌, ◌%◌, ◌<◌};
 ghost use Rattle.chunk.specs.Index.{Found, size_of};
-ghost use Rattle.file.specs.Table.{header, base_rules, chunk_rules, peak, count_rules};
+ghost use Rattle.file.specs.Table.{header, base_rules, chunk_rules, peak, peak_by, count_rules};
 
 use chunk::{Span, missing, size};
 use types::refusal::Reason;
@@ -120,6 +120,14 @@ pub(crate) fn fan(p: &[u8]) -> Option<usize>
         last = next;
     }
     None
+}
+
+// The same; none where refusal 20 is not tried.
+#[tactic(auto, using(words::proofs::Rows::rows), unfolding(crate::specs::Table::peak_by))]
+pub fn fan_by(p: &[u8], tried: bool) -> Option<usize>
+    ensures { Found 255 (peak_by tried p.now) result }
+{
+    if tried { fan(p) } else { None }
 }
 
 // Refusals 21 and 22, where N is `n`.

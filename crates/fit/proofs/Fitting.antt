@@ -1,8 +1,9 @@
 -- A record that fits its bytes: what it gives, and that an opened file's does.
-use Rattle.std.proofs.Common.{ℕ, suc, ◌+◌, ◌*◌, ◌≤◌, ◌<◌, List, true, ◌≡◌, arith, mul-le-mul_right, mul-one, suc-mul, length, Bor, Result, is_err}
+use Rattle.std.proofs.Common.{ℕ, suc, ◌+◌, ◌*◌, ◌≤◌, ◌<◌, List, true, ◌≡◌, arith, mul-le-mul_right, mul-one, suc-mul, length, Bor, Result, Err, is_err, le-leb}
 use Rattle.std.proofs.lemmas.Grind.{common_steps}
 use Rattle.std.specs.Prelude.{⊤}
 use Rattle.types.specs.Width.{known}
+use Rattle.types.specs.declared.refusal.Reason.{Reason}
 use Rattle.types.proofs.Widths.{width_bounds}
 use Rattle.words.specs.First.{◌if◌else◌, ◌or◌, fine}
 use Rattle.words.specs.Part.{PartOf, RecordsOf}
@@ -43,6 +44,15 @@ module _ (l : List ℕ) (f : File) (n i : ℕ) where
   pub asked_plain : fit_rule l f ≡ fine → i < n → ask_rule l f n i ≡ fine
   unfolding ask_rule ◌or◌ ◌if◌else◌
   asked_plain e h = grind (arith, common_steps)
+
+  -- and one that meets a refusal
+  pub ask_misfit : {r : Reason} → fit_rule l f ≡ Err r → ask_rule l f n i ≡ Err r
+  unfolding ask_rule ◌or◌
+  ask_misfit h = rw h
+
+  pub ask_out : fit_rule l f ≡ fine → n ≤ i → ask_rule l f n i ≡ Err Reason.Position
+  unfolding ask_rule ◌or◌ ◌if◌else◌
+  ask_out h g = rw (h, le-leb n i g)
 
 -- what a question that is answered gives
 pub record Answered (l : List ℕ) (f : File) (n i : ℕ) : Type 0 where

@@ -5,6 +5,7 @@ use Rattle.fit.proofs.ask.Reads as ask
 use Rattle.fit.proofs.parts.Fit.fan.Reads as fan
 use Rattle.fit.proofs.parts.Fit.ids.Reads as ids
 use Rattle.fit.proofs.parts.Fit.rows.Reads as rows
+use Rattle.fit.proofs.parts.Fit.base.Reads as base
 
 pub fit_determined : Determined fit.Learnt
 fit_determined κs a y z d e p q = same p q
@@ -20,3 +21,6 @@ ids_determined κs a y z d e p q = same_part p q
 
 pub rows_determined : DeterminedPart rows.Learnt
 rows_determined κs a y z d e p q = same_part p q
+
+pub base_determined : DeterminedPart base.Learnt
+base_determined κs a y z d e p q = same_part p q

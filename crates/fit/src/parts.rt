@@ -66,6 +66,14 @@ impl<'a> Fit<'a> {
         self.cut(self.file.cdat, n * (self.file.width + 16))
     }
 
+    // The part of the base ids.
+    pub fn base(self) -> &'a [u8]
+        ensures { PartOf self.entry.bytes self.entry.file.base (self.entry.file.bases * self.entry.file.width) result }
+    {
+        let n = self.file.bases as usize;
+        self.cut(self.file.base, n * self.file.width)
+    }
+
     // The EDGE chunk's own part, where the file has one.
     pub fn edge(self) -> Option<&'a [u8]>
         ensures bytes { option_map (λ b. b.now) result ≡ edge_chunk self.entry.bytes.now self.entry.file }

@@ -28,6 +28,16 @@ use Rattle.flat.specs.Records.{end_of, edge_of, file_of, present_in, record_of, 
 
 -- ── a record ──
 
+-- where a chunk ends
+module _ (start size : ℕ) where
+  pub end_past : 2 ^ 64 - 1 - start < size → start < 2 ^ 64 → 2 ^ 64 - 1 ≡ end_of start size
+  unfolding end_of
+  end_past h g = omega arith
+
+  pub end_fits : start + size < 2 ^ 64 → start + size ≡ end_of start size
+  unfolding end_of
+  end_fits h = omega arith
+
 -- a chunk that does not end before it starts comes back
 Level : Option Span → Type 0
 Level c = (p : Span) → c ≡ Some p → (p.start ≤ p.end) × (p.end < 2 ^ 64)

@@ -1,5 +1,5 @@
 -- Laws of order: of two numbers, and of the numbers that two runs of bytes make.
-use Rattle.std.proofs.Common.{ℕ, zero, suc, ◌+◌, ◌-◌, ◌*◌, ◌^◌, ◌≤◌, ◌<◌, min, List, [], ◌∷◌, ◌≡◌, refl, sym, ap, ap₂, ◌∙◌, ⊎_elim, arith, zero-add}
+use Rattle.std.proofs.Common.{ℕ, zero, suc, ◌+◌, ◌-◌, ◌*◌, ◌^◌, ◌≤◌, ◌<◌, min, List, [], ◌∷◌, ◌≡◌, refl, sym, ap, ap₂, ◌∙◌, ⊎_elim, arith, add-one, zero-add}
 use Rattle.std.proofs.Common.{eq-or-lt_of_le, le_of_suc-le-suc, eqb, length, get_or, take, drop, length-take, length-drop, ne_eqb}
 use native.Mathlib.Nat.{one-le-pow}
 use lib.Arith.{digits_lt}
@@ -16,6 +16,10 @@ use Rattle.words.proofs.Parts.{number_part}
 
 -- two runs of bytes, at i in a and at j in b
 module _ (a b : List ℕ) (i j : ℕ) where
+  pub one_more : (k : ℕ) → be k a i ≡ be k b j → get_or a (i + k) 0 ≡ get_or b (j + k) 0 → be (k + 1) a i ≡ be (k + 1) b j
+  unfolding be
+  one_more k e g = let z : be (suc k) a i ≡ be (suc k) b j = omega (arith, e, g) in rw (add-one k) z
+
   -- equal bytes make equal numbers
   pub same_number : (w : ℕ) → ((k : ℕ) → k < w → get_or a (i + k) 0 ≡ get_or b (j + k) 0) → be w a i ≡ be w b j
   unfolding be
@@ -23,7 +27,7 @@ module _ (a b : List ℕ) (i j : ℕ) where
   same_number (suc w) h = omega (arith, same_number w (λ k g. h k (omega arith)), h w (omega arith))
 
   module _ (ba : Bytes a) (bb : Bytes b) where
-    less_more : (w k : ℕ) → k ≤ w → be k a i < be k b j → be w a i < be w b j
+    pub less_more : (w k : ℕ) → k ≤ w → be k a i < be k b j → be w a i < be w b j
     unfolding be
     less_more zero k h g = let e : k ≡ 0 = omega arith in rw e at g
     less_more (suc w) k h g =
@@ -107,6 +111,16 @@ module _ (x s r : List ℕ) (at n : ℕ) (d : r ≡ drop at s) (e : n ≡ min (l
   of_s : be n s at * 256 ^ (length x - n) + 0 ≡ be (length x) s at
   of_s = ap (λ (k : ℕ). be n s at * 256 ^ (length x - n) + k) (sym nothing) ∙ sym (be_split n (length x - n) s at) ∙ ap (λ (k : ℕ). be k s at) all
 
+  -- where the first n bytes are the same, the rest of x decides
+  pub compared_rest : Bytes x → be n x 0 ≡ be n s at → nat_cmp (number (take (length x - n) (drop n x))) 0 ≡ nat_cmp (number x) (be (length x) s at)
+  compared_rest p g =
+      let m = length x - n in
+      let even : nat_cmp (be n x 0) (be n s at) ≡ Equal = sym (nat_cmp_is _ _ Equal g) in
+      let parts = by_parts (be n x 0) (be n s at) (be_below x p m n) (one-le-pow m 256 (omega arith)) in
+      ap (λ (k : ℕ). nat_cmp k 0) (number_part n m x (omega arith))
+      ∙ sym (parts ∙ ap (λ (o : Ordering). ordering_then o (nat_cmp (be m x n) 0)) even)
+      ∙ ap₂ nat_cmp of_x of_s
+
   pub compared : Bytes x → Bytes s
       → ordering_then (slice_cmp nat_cmp (take n x) (take n r)) (nat_cmp (number (take (length x - n) (drop n x))) 0)
       ≡ nat_cmp (number x) (be (length x) s at)
@@ -118,3 +132,23 @@ module _ (x s r : List ℕ) (at n : ℕ) (d : r ≡ drop at s) (e : n ≡ min (l
         number_part at n s (omega (arith, long)),
         number_part n (length x - n) x (omega arith),
       ) (sym (by_parts (be n x 0) (be n s at) (be_below x p (length x - n) n) (one-le-pow (length x - n) 256 (omega arith))) ∙ ap₂ nat_cmp of_x of_s)
+
+-- x against the run of as many bytes at `at` of s, of which the first n lie in s: the first k are the same
+pub record Comparing (x s : List ℕ) (at n k : ℕ) : Type 0 where
+  pub few : k ≤ n
+  pub reach : n ≡ min (length x) (length s - at)
+  pub same : be k x 0 ≡ be k s at
+
+module _ {x s : List ℕ} {at n k : ℕ} (p : Comparing x s at n k) where
+  pub compare_less : Bytes x → Bytes s → k < n → get_or x k 0 < get_or s (at + k) 0 → Less ≡ nat_cmp (number x) (be (length x) s at)
+  compare_less bx bs h g = nat_cmp_is _ _ Less (less_at x s 0 at bx bs (length x) k (omega arith) p.same (rw zero-add g))
+
+  pub compare_greater : Bytes x → Bytes s → k < n → get_or s (at + k) 0 < get_or x k 0 → Greater ≡ nat_cmp (number x) (be (length x) s at)
+  compare_greater bx bs h g = nat_cmp_is _ _ Greater (less_at s x at 0 bs bx (length x) k (omega arith) (sym p.same) (rw zero-add g))
+
+  pub compare_on : k < n → get_or x k 0 ≤ get_or s (at + k) 0 → get_or s (at + k) 0 ≤ get_or x k 0 → Comparing x s at n (k + 1)
+  compare_on l h g = record { few = omega arith; reach = p.reach; same = one_more x s 0 at k p.same (rw zero-add (omega arith)) }
+
+  -- all n are the same: what is left of x stands against nothing
+  pub compare_rest : k ≡ n → Bytes x → nat_cmp (number (take (length x - n) (drop n x))) 0 ≡ nat_cmp (number x) (be (length x) s at)
+  compare_rest h bx = compared_rest x s (drop at s) at n refl (p.reach ∙ ap (min (length x)) (sym (length-drop at s))) bx (rw h at p.same)

@@ -31,9 +31,19 @@ fn against_zero(s: &[u8]) -> Ordering
 pub fn compare(x: &[u8], s: &[u8], at: usize) -> Ordering
     ensures { Answers order_said result (nat_cmp (number x.now) (be (length x.now) s.now at)) }
 {
-    let run = s.get(at..).unwrap_or(&[]);
-    let n = x.len().min(run.len());
-    x[..n].cmp(&run[..n]).then(against_zero(&x[n..]))
+    let n = x.len().min(s.len().saturating_sub(at));
+    // By hand: the ids of a bucket differ in their first bytes, where the slices' `cmp` tries longer runs first.
+    for k in 0..n {
+        let a = x[k];
+        let b = s[at + k];
+        if a < b {
+            return Ordering::Less;
+        }
+        if b < a {
+            return Ordering::Greater;
+        }
+    }
+    against_zero(&x[n..])
 }
 
 // `x` is the run of as many bytes at `at` of `s`; a byte past the end of `s` counts as 0.

@@ -17,6 +17,7 @@ use graph::locate::{Spot, locate};
 use types::graph::Position;
 
 // The chunk of a file with an id, where the index is sound; no bytes at 0 where it is absent.
+#[tactic(auto, unfolding(chunk::specs::Index::checked_of, words::specs::First::refuse))]
 pub fn chunk_part(s: &[u8], id: u32) -> Part
     ensures { result ≡ chunk_part s.now id }
 {

@@ -1,5 +1,6 @@
 -- The trailer alone: the ways through its rule, and that there is room for it.
 use Rattle.std.proofs.Common.{ℕ, ◌≤◌, List, ◌≡◌, arith, length, Err}
+use Rattle.types.specs.declared.refusal.Reason.{Reason}
 use Rattle.words.specs.First.{fine, refuse, ◌or◌}
 use Rattle.fit.specs.Fits.{fit_rule, Fitted}
 use Rattle.file.specs.declared.File.{File}
@@ -13,6 +14,10 @@ module _ (p : List ℕ) (f : File) where
   pub checksum_is : checksum_rule p f ≡ refuse (fit_rule p f) Err (sum_rule f.width p)
   unfolding checksum_rule
   checksum_is = or_refuse _ _
+
+  pub checksum_misfit : {r : Reason} → fit_rule p f ≡ Err r → checksum_rule p f ≡ Err r
+  unfolding checksum_rule ◌or◌
+  checksum_misfit h = rw h
 
   module _ (h : fit_rule p f ≡ fine) where
     pub trailer_room : f.width ≤ length p

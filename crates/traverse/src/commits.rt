@@ -10,7 +10,7 @@ use commit::Commit;
 use file::File;
 use fit::parts::Fit;
 use steps::count_in;
-use tries::{Tried, key, row_in};
+use tries::{Tried, key, row_in, stopped};
 use types::refusal;
 use types::refusal::{Reason, Refusal};
 
@@ -22,16 +22,20 @@ pub struct Totals {
 }
 
 // A commit, by how its row was answered: its walk.
-#[tactic(auto, unfolding(crate::specs::Scans::tried_of, crate::specs::Scans::tried_by))]
+#[tactic(auto, unfolding(crate::specs::Scans::tried_of, crate::specs::Scans::tried_by, words::specs::First::refuse))]
 fn attempt(row: Result<Commit, Refusal>, edge: Option<&[u8]>) -> Result<Tried, Reason>
     ensures { result ≡ tried_of row (shown edge.entry) }
 {
-    let commit = row.map_err(|r| r.reason)?;
-    let parents = count_in(commit.first, commit.second, edge)?;
-    Ok(Tried {
-        parents,
-        generation: commit.generation,
-    })
+    match row {
+        Ok(commit) => match count_in(commit.first, commit.second, edge) {
+            Ok(parents) => Ok(Tried {
+                parents,
+                generation: commit.generation,
+            }),
+            Err(reason) => stopped(reason),
+        },
+        Err(refusal) => stopped(refusal.reason),
+    }
 }
 
 // The lower of two generations; the first commit's stands alone.

@@ -7,9 +7,10 @@ use borrow.Author.Tests.{lt-leb, not-false}
 use Rattle.std.specs.Prelude.{⊤}
 use Rattle.types.specs.declared.refusal.Reason.{Reason}
 use Rattle.types.specs.declared.refusal.Refusal.{Refusal}
-use Rattle.words.specs.First.{◌if◌else◌, fine, first, refuse}
+use Rattle.words.specs.First.{fine, first, refuse}
 use Rattle.words.proofs.Rows.{miss, pass, eq_not, refuse_none}
 use Rattle.words.proofs.Searches.{first_hit, first_none}
+use Rattle.ancestry.proofs.Scans.{first_rule, rule_none, rule_all}
 use Rattle.list.specs.List.{records_of}
 use Rattle.file.specs.declared.File.{File}
 use Rattle.steps.specs.Walks.{Walked, ends, parent, positions, end_of}
@@ -43,27 +44,15 @@ module _ (p : ℕ → Bool) (n : ℕ) where
       go false e = refl
 
 -- there is no first refusal exactly if no rule refuses
-fine_of : (m : Result ⊤ Reason) → is_err m ≡ false → m ≡ fine
-fine_of (Ok u) e = refl
-fine_of (Err r) e = absurd (cc)
-
 module _ (rule : ℕ → Result ⊤ Reason) (n : ℕ) where
   abbrev bad_rule : ℕ → Bool
   bad_rule i = is_err (rule i)
 
-  pub rules_all : (rule (first bad_rule 0 n) if ltb (first bad_rule 0 n) n else fine) ≡ fine → (j : ℕ) → j < n → rule j ≡ fine
-  unfolding ◌if◌else◌
-  rules_all e = go (ltb (first bad_rule 0 n) n) refl e
-    where
-      go : (t : Bool) → ltb (first bad_rule 0 n) n ≡ t → (rule (first bad_rule 0 n) if t else fine) ≡ fine → (j : ℕ) → j < n → rule j ≡ fine
-      go true q e j h =
-          let l = ltb-true (first bad_rule 0 n) n q in
-          let y : is_err (rule (first bad_rule 0 n)) ≡ true = first_hit bad_rule 0 n (omega arith) in
-          absurd (cc)
-      go false q e j h = fine_of (rule j) (none_all bad_rule n q j h)
+  pub rules_all : first_rule rule bad_rule n ≡ fine → (j : ℕ) → j < n → rule j ≡ fine
+  rules_all = rule_none rule bad_rule (λ i. refl) n
 
-  pub all_rules : ((j : ℕ) → j < n → rule j ≡ fine) → (rule (first bad_rule 0 n) if ltb (first bad_rule 0 n) n else fine) ≡ fine
-  all_rules f = sym (miss _ _ fine fine (all_none bad_rule n (λ j h. ap is_err (f j h))) refl)
+  pub all_rules : ((j : ℕ) → j < n → rule j ≡ fine) → first_rule rule bad_rule n ≡ fine
+  all_rules = rule_all rule bad_rule (λ i. refl) n
 
 -- ── a walk ──
 

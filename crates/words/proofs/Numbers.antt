@@ -1,5 +1,5 @@
 -- Laws of big-endian numbers, each over the width.
-use Rattle.std.proofs.Common.{ℕ, zero, suc, ◌+◌, ◌*◌, ◌/◌, ◌%◌, ◌^◌, ◌≤◌, ◌<◌, List, ◌∷◌, ◌≡◌, refl, sym, ap, ap₂, ◌∙◌, add-zero, add-suc, suc-add}
+use Rattle.std.proofs.Common.{ℕ, zero, suc, ◌+◌, ◌*◌, ◌/◌, ◌%◌, ◌^◌, ◌≤◌, ◌<◌, List, ◌∷◌, ◌≡◌, refl, sym, ap, ap₂, ◌∙◌, add-zero, add-one, add-suc, suc-add}
 use Rattle.std.proofs.Common.{add_assoc, mul-one, mul_assoc, eq-or-lt_of_le, le_of_suc-le-suc, pow-suc, mod-lt, ◌⊎◌, inl, inr, ⊎_elim, arith, length}
 use Rattle.std.proofs.Common.{get_or, take, drop, length-take, get_or-take, get_or-drop}
 use native.Mathlib.Nat.{pow-zero, pow-succ', one-le-pow}
@@ -15,6 +15,11 @@ le_or_lt a b = ⊎_elim inr inl (cases_lt b a)
 -- one number against another
 pub by_order : {X : Type 0} (a b : ℕ) → (a < b → X) → (a ≡ b → X) → (b < a → X) → X
 by_order a b below same above = ⊎_elim same (⊎_elim below above) (cases_order a b)
+
+-- one byte more
+pub be_next : (l : List ℕ) (i n : ℕ) → be (n + 1) l i ≡ be n l i * 256 + get_or l (i + n) 0
+unfolding be
+be_next l i n = rw add-one
 
 -- past the end there is nothing to read
 pub be_past : (n : ℕ) (l : List ℕ) (i : ℕ) → length l ≤ i → be n l i ≡ 0

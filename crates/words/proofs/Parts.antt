@@ -1,7 +1,9 @@
 -- Laws of parts: how long one is, a part of a part, and when records lie in it.
-use Rattle.std.proofs.Common.{ℕ, zero, suc, ◌+◌, ◌-◌, ◌*◌, ◌≤◌, List, [], ◌∷◌, Bool, true, false, ◌≡◌, refl, sym, ap, ◌∙◌, arith, add-zero, mul-one}
-use Rattle.std.proofs.Common.{length, take, drop, length-take, length-drop, drop_of_length-le, ⊎_elim, take-take, drop-drop, Bor, le-leb, leb-true}
-use native.Mathlib.Nat.{add-sub_cancel_left}
+use Rattle.std.proofs.Common.{ℕ, zero, suc, ◌+◌, ◌-◌, ◌*◌, ◌/◌, ◌≤◌, ◌<◌, List, [], ◌∷◌, Bool, true, false, ◌≡◌, refl, sym, ap, ◌∙◌, arith, add-zero, mul-one}
+use Rattle.std.proofs.Common.{length, take, drop, length-take, length-drop, drop_of_length-le, ⊎_elim, take-take, drop-drop, Bor}
+use Rattle.std.proofs.Common.{leb, le-leb, leb-true, leb-false}
+use native.Mathlib.Nat.{add-sub_cancel_left, le-div_iff_mul-le, div-lt_iff_lt-mul}
+use borrow.Author.Tests.{lt-leb}
 use Rattle.std.specs.List.{PartBy}
 use Rattle.std.specs.Option.{unwrap_or}
 use Rattle.std.specs.declared.option.Option.{Option}
@@ -53,6 +55,28 @@ pub rest_got : {R : Type 0} (now : R → List ℕ) (l : List ℕ) (i : ℕ) (r :
     → PartBy now l i (length l) r → now d ≡ [] → now (unwrap_or r d) ≡ drop i l
 rest_got now l i None d p e = e ∙ sym (drop_of_length-le l (⊎_elim (λ h. omega arith) (λ h. omega arith) p.0))
 rest_got now l i (Some r) d p e = p.0.2 ∙ take_rest l i
+
+-- records that lie within n bytes, and ones that do not
+module _ {n at : ℕ} (count w : ℕ) where
+  pub fits_none : n < at → false ≡ fits n at count w
+  fits_none h = sym (lt-leb (at + count * w) n (omega arith))
+
+  pub fits_empty : at ≤ n → w ≡ 0 → true ≡ fits n at count w
+  fits_empty h e = rw e (sym (le-leb (at + count * 0) n (omega arith)))
+
+  pub fits_is : at ≤ n → (w ≡ 0 → ⊥) → leb count ((n - at) / w) ≡ fits n at count w
+  fits_is h e = go (leb count ((n - at) / w)) refl
+    where
+      p : 0 < w
+      p = omega arith
+
+      go : (t : Bool) → leb count ((n - at) / w) ≡ t → t ≡ fits n at count w
+      go true q =
+          let z : count * w ≤ n - at = (le-div_iff_mul-le p).0 (leb-true count ((n - at) / w) q) in
+          sym (le-leb (at + count * w) n (omega arith))
+      go false q =
+          let z : n - at < count * w = (div-lt_iff_lt-mul p).0 (leb-false count ((n - at) / w) q) in
+          sym (lt-leb (at + count * w) n (omega arith))
 
 -- a cut by the records' own test: t is what the test said
 pub inside : (s : Bor (List ℕ)) (at count w : ℕ) {t : Bool} → t ≡ fits (length s.now) at count w → t ≡ true

@@ -1,10 +1,16 @@
--- `access::base_at` meets its contract: a question that is answered has its id in the file; one that is refused gets an empty part.
-use Rattle.std.proofs.Common.{refl, arith, rules}
-use Rattle.fit.proofs.Fitting.{no_error, part_fine, part_none}
+-- `access::base_at` meets its contract: a question that is answered has its row inside the base ids (`answered`, `row_part`); one that is refused gets an
+-- empty part.
+use Rattle.std.proofs.Common.{◌*◌, refl, ap, arith, is_err}
+use Rattle.words.specs.Part.{PartOf}
+use Rattle.fit.proofs.Fitting.{answered, part_none, row_part}
 use Rattle.access.proofs.base_at.Goals as goal
 
-pub returns-then-is_err : goal.returns-then-is_err
-returns-then-is_err c = part_none _ _ _ _ _ (cc) (record { block = refl; start = omega arith; bytes = refl })
+pub returns-in-Ok : goal.returns-in-Ok
+returns-in-Ok c =
+    let a = c.args in
+    let k = answered a.s.now a.f a.f.bases a.j c.in-Ok.ensures.0 in
+    let ids : PartOf a.s a.f.base (a.f.bases * a.f.width) c.base.result = rw (c.in-Ok.ensures.1, c.in-Ok.ensures.2) at c.base.ensures in
+    row_part _ _ a.j a.f.width ids k.below (omega arith) k.rule k.fits.base c.part.ensures
 
-pub returns : goal.returns
-returns c = part_fine _ _ _ _ _ (no_error _ (cc)) (search rules)
+pub returns-in-Err : goal.returns-in-Err
+returns-in-Err c = part_none _ _ _ _ _ (ap is_err c.in-Err.ensures) (record { block = refl; start = omega arith; bytes = refl })

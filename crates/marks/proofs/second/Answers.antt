@@ -1,7 +1,7 @@
 -- `marks::second` meets its contract: the commit that was read is the row (`row`), and its second word is the row of `second_at`.
 -- A step that answers a parent was asked of a commit that is there, so that the refusal cannot be.
 use Rattle.steps.specs.declared.Phase.TheVariants.{Second}
-use Rattle.std.proofs.Common.{arith, ◌∙◌}
+use Rattle.std.proofs.Common.{arith, sym, ◌∙◌}
 use Rattle.commit.proofs.Words.{commit_given, commit_barred}
 use Rattle.marks.specs.Marks.{second_at}
 use Rattle.marks.proofs.Reading.{field_fits, step_word, second_place}
@@ -10,7 +10,8 @@ use Rattle.marks.proofs.second.Goals as goal
 pub returns-in_default : goal.returns-in_default
 returns-in_default c =
     let w = (step_word _ _ _ Second (λ i. (c.type_inv.s i).fits) c.requires.1).0 in
-    absurd (commit_barred _ _ _ c.commit_at.ensures.is c.in_default.is w.rule)
+    let barred = (commit_barred _ _ _ c.commit_at.ensures.is c.in_default.is).0 in
+    absurd (let z = sym w.rule ∙ barred in cc)
 
 pub field-requires : goal.field-requires
 field-requires c = field_fits (commit_given _ _ _ c.commit_at.ensures.is c.in-Ok.is).0 4 (omega arith) (omega arith)
